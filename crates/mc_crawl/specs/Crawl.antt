@@ -11,6 +11,7 @@ use Rattle.mc_pull.specs.{Looks.IsJudged, Looks.answer_by, Looks.events_if, Ques
 use Rattle.mc_crawl.specs.declared.kind.Kind.{Kind}
 use Rattle.mc_crawl.specs.declared.kind.Kind.TheVariants as kinds
 use Rattle.mc_crawl.specs.CrawlKind.{kind_of}
+use Rattle.mc_pull.specs.declared.context.Context.{Context}
 
 -- a crawl of a link: the call that makes it, the link's number, the time, and the configuration
 pub record Crawl : Type 0 where
@@ -22,6 +23,10 @@ pub record Crawl : Type 0 where
 -- the crawl with these parts
 abbrev pub crawl : Who → ℕ → ℕ → Config → Crawl
 crawl who number moment config = record { who = who; number = number; moment = moment; config = config }
+
+-- the crawl of an entry by a call's step
+abbrev pub crawl_by : Context → ℕ → Crawl
+crawl_by context number = crawl context.turn.who number context.turn.moment context.config.now
 
 -- what a crawl asks of an entry: only whether its item is dead
 abbrev pub asked_by : Crawl → Question

@@ -10,6 +10,7 @@ use Rattle.mc_segment.specs.{ClassState.ClassView, ClassState.chunks_for, Entrie
 use Rattle.mc_stripe.specs.StripeState.{Stripe}
 use Rattle.mc_pull.specs.declared.{judge.Ask.Ask, judge.Mode.Mode, judge.Mode.TheVariants.Plain, judge.Mode.TheVariants.Evict, judge.Mode.TheVariants.Force}
 use Rattle.mc_pull.specs.declared.{judge.Judge.Judge, judge.Judge.TheVariants.Walk, judge.Judge.TheVariants.Dead, judge.Judge.TheVariants.Hit}
+use Rattle.mc_pull.specs.declared.context.Context.{Context}
 
 -- a question about an entry: who asks, which entry, what, and at which time
 pub record Question : Type 0 where
@@ -21,6 +22,10 @@ pub record Question : Type 0 where
 -- the question with these parts
 abbrev pub question : Who → ℕ → Judge → ℕ → Question
 question who number judge moment = record { who = who; number = number; judge = judge; moment = moment }
+
+-- the question about an entry that a call's step asks
+abbrev pub question_by : Context → ℕ → Judge → Question
+question_by context number judge = question context.turn.who number judge context.turn.moment
 
 -- the question that an `Ask` puts
 abbrev pub question_of : Ask → Question

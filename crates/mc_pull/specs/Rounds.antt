@@ -6,6 +6,7 @@ use Rattle.mc_rule.specs.Lists.{chunks_from, lists_of, count_of}
 use Rattle.mc_segment.specs.ClassState.{ClassView}
 use Rattle.mc_pull.specs.declared.{judge.Mode.Mode, judge.Mode.TheVariants.Evict, judge.Mode.TheVariants.Force, looking.Answer.Answer, pulled.Pulled.Pulled}
 use Rattle.mc_pull.specs.{Pulled.did_something, Walk.pull, Walk.class_at, Walk.IsWalk}
+use Rattle.mc_pull.specs.declared.context.Context.{Context}
 
 -- what is fixed for rounds: the class, the caller's call, its time and the configuration
 pub record Rounds : Type 0 where
@@ -17,6 +18,10 @@ pub record Rounds : Type 0 where
 -- the rounds with these parts; the class's history and room don't matter
 abbrev pub rounds : ClassView → Who → ℕ → Config → Rounds
 rounds class who moment config = record { class = class_at class []; who = who; moment = moment; config = config }
+
+-- the rounds of a call's steps in a class
+abbrev pub rounds_by : ClassView → Context → Rounds
+rounds_by class context = rounds class context.turn.who context.turn.moment context.config.now
 
 -- a walk along a list: from one history, by these answers, to another history, with these counts
 abbrev pub Walks : Rounds → Seg → Mode → List ClassEvent → List Answer → List ClassEvent → Pulled → Type 0

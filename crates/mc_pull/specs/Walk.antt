@@ -8,6 +8,7 @@ use Rattle.mc_segment.specs.ClassState.{ClassView}
 use Rattle.mc_pull.specs.declared.{judge.Judge.TheVariants.Walk, judge.Mode.Mode, judge.Mode.TheVariants.Plain, judge.Mode.TheVariants.Evict}
 use Rattle.mc_pull.specs.declared.{judge.Mode.TheVariants.Force, looking.Answer.Answer, looking.Judged.Judged, pulled.Pulled.Pulled}
 use Rattle.mc_pull.specs.{Looks.events_if, Looks.IsJudgedIf, Pulled.none_pulled, Pulled.counts_if, Pulled.is_end_if, Question.Question, Question.question}
+use Rattle.mc_pull.specs.declared.context.Context.{Context}
 
 -- what is fixed for a walk: the class, the list, the mode, the caller's call, its time and the configuration
 pub record Pull : Type 0 where
@@ -25,6 +26,10 @@ class_at c history = record c { history = history; room = 0 }
 -- the walk with these parts
 abbrev pub pull : ClassView → Seg → Mode → Who → ℕ → Config → Pull
 pull class seg mode who moment config = record { class = class_at class class.history; seg = seg; mode = mode; who = who; moment = moment; config = config }
+
+-- the pull of a call's step along a list
+abbrev pub pull_by : ClassView → Seg → Mode → Context → Pull
+pull_by class seg mode context = pull class seg mode context.turn.who context.turn.moment context.config.now
 
 -- the state of a walk: the class's history, how many entries it may still look at, its counts, and whether it has ended
 pub record Way : Type 0 where

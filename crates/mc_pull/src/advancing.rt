@@ -3,17 +3,17 @@ ghost use Rattle.std.specs.Prelude.{◌≡◌, false, IfOk, IfErr, IfSome, OnErr
 ghost use Rattle.mc_item.specs.declared.lists.Seg.TheVariants.{Cold};
 ghost use Rattle.mc_rule.specs.Lists.{find, found, lists_of};
 ghost use Rattle.mc_segment.specs.ClassState.{with_room};
-ghost use Rattle.mc_pull.specs.{Advance.IsAdvance, Advance.MovesIf, Growth.GainsFor, Growth.KeepsSince, Question.question, Question.IsClassOf};
-ghost use Rattle.mc_pull.specs.{Walker.walker_of};
+ghost use Rattle.mc_pull.specs.{Advance.IsAdvance, Advance.MovesIf, Growth.GainsFor, Growth.KeepsSince, Question.question_by, Question.IsClassOf};
+ghost use Rattle.mc_pull.specs.{Walker.walker_by};
 ghost use Rattle.mc_pull.specs.Advance as words;
 ghost use Rattle.mc_pull.specs.declared.judge.Judge.TheVariants as judges;
 
+use crate::context::Context;
 use crate::judge::{Done, Judge};
 use crate::looking::{Gate, Judged};
 use crate::pulling::look_at;
-use mc_item::{Config, Entry, Fault, Seg, Who, stripe_of};
+use mc_item::{Entry, Fault, Seg, stripe_of};
 use mc_segment::ClassState;
-use std::alloc::Global;
 
 // The entry of this number, if it is in COLD.
 fn cold_entry(class: &ClassState, number: u64) -> Option<&Entry>
@@ -54,33 +54,28 @@ fn is_to_warm(judged: Option<Judged>) -> bool
 /// item has another link, isn't ACTIVE or is dead at the moment, it returns false and changes nothing.
 /// Errors: the gate's faults. Nothing has changed then.
 pub fn advance<G: Gate>(
-    alloc: Global,
+    context: Context<'_>,
     class: &mut ClassState,
     number: u64,
-    who: Who,
-    moment: u64,
-    config: &Config,
     gate: &mut G,
 ) -> Result<bool, Fault>
-    requires config { IsClassOf config.now class.old }
-    requires gate { G.serves gate.old config.now class.old }
-    ensures advanced { IfOk result
-        (IsAdvance (question who number judges.Hit moment) config.now class.old class.new (G.answers gate.old) (G.answers gate.new)) }
-    ensures moves { IfOk result (MovesIf (question who number judges.Hit moment) class.old.history class.new.history) }
+    requires config { IsClassOf context.config.now class.old }
+    requires gate { G.serves gate.old context.config.now class.old }
+    ensures advanced { IfOk result (IsAdvance (question_by context.entry number judges.Hit) context.entry.config.now class.old class.new (G.answers gate.old)
+        (G.answers gate.new)) }
+    ensures moves { IfOk result (MovesIf (question_by context.entry number judges.Hit) class.old.history class.new.history) }
     ensures err { OnErr result ((class.new ≡ with_room class.old class.new.room) × (G.answers gate.new ≡ G.answers gate.old)) }
     ensures gains { GainsFor false class.old class.new }
     ensures fault { IfErr result (G.faults gate.new class.new) }
     ensures holds { G.references gate.new ≡ G.references gate.old }
-    ensures serves { G.serves gate.new config.now class.new }
-    ensures kept { KeepsSince (G.keeps (walker_of class.old who moment)) gate.old class.old.history gate.new class.new.history }
+    ensures serves { G.serves gate.new context.entry.config.now class.new }
+    ensures kept { KeepsSince (G.keeps (walker_by class.old context.entry)) gate.old class.old.history gate.new class.new.history }
 {
     let Some(entry) = cold_entry(class, number) else {
         return Ok(false);
     };
-    let stripe = stripe_of(&entry.key, config.stripes);
+    let stripe = stripe_of(&entry.key, context.config.stripes);
     let hit = Judge::Hit;
-    let judged = look_at(
-        alloc, class, stripe, who, number, &hit, moment, config, gate,
-    )?;
+    let judged = look_at(context, class, stripe, number, &hit, gate)?;
     Ok(is_to_warm(judged))
 }

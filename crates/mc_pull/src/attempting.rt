@@ -146,12 +146,12 @@ fn part_after(class: &ClassState, key: Key, room: Room, fate: Fate) -> Part
         Fate::Renewed { cost, expiry, old } => {
             let number = entry_number(class, &key, old);
             if is_here(class, room) {
-                linked_part(class, key, cost, expiry, number)
+                linked_part(key, cost, expiry, number)
             } else {
-                gone_part(class, number)
+                gone_part(number)
             }
         }
-        Fate::Goes(link) => gone_part(class, entry_number(class, &key, Some(link))),
+        Fate::Goes(link) => gone_part(entry_number(class, &key, Some(link))),
     }
 }
 

@@ -6,6 +6,7 @@
 mod advancing;
 mod attempting;
 mod certain;
+mod context;
 mod from_tail;
 mod judge;
 mod juggling;
@@ -25,6 +26,7 @@ pub use advancing::advance;
 pub use attempting::{
     Tried, attempt_none, attempt_one, attempt_two, offer_home, offer_other, ready,
 };
+pub use context::Context;
 pub use from_tail::walks_go_from_the_tail;
 pub use judge::{Ask, Done, Judge, Mode};
 pub use juggling::juggle;

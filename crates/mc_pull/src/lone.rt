@@ -1,17 +1,17 @@
 //! A gate that is lent one stripe, and reaches no other.
 ghost use Rattle.std.specs.Prelude.{◌≡◌, ◌≤◌, ◌+◌, ◌++◌, List, IfOk, IfErr, OnErr};
-ghost use Rattle.mc_pull.specs.{Growth.GainsEvents, Juggle.IsJuggle, Lone.Serves, Lone.Walked, Question.IsClassOf, Refusal.MayFail, Rounds.rounds};
+ghost use Rattle.mc_pull.specs.{Growth.GainsEvents, Juggle.IsJuggle, Lone.Serves, Lone.Walked, Question.IsClassOf, Refusal.MayFail, Rounds.rounds_by};
 ghost use Rattle.mc_pull.specs.{Rounds.IsRoom, Broken.BreaksRoom, Broken.BreaksJuggle};
-ghost use Rattle.mc_pull.specs.{Walker.walker_of};
+ghost use Rattle.mc_pull.specs.{Walker.walker_by};
 ghost use Rattle.mc_pull.specs.declared.looking.Answer.{Answer};
 
+use crate::context::Context;
 use crate::juggling::juggle;
 use crate::looking::{Answer, Gate, Look};
 use crate::rounds::make_room;
-use mc_item::{Config, Fault, Moves, StripeNo, Who};
+use mc_item::{Fault, Moves, StripeNo};
 use mc_segment::ClassState;
 use mc_stripe::StripeState;
-use std::alloc::Global;
 
 /// A gate that is lent one stripe, with its number, and a list for its answers. It never reaches another stripe.
 #[derive(Drop)]
@@ -57,51 +57,37 @@ impl<'a> Gate for Lone<'a> {
 impl<'a> Lone<'a> {
     /// Makes room in a class as `make_room` does. As this gate has a single stripe, the contract adds: the gate still holds it,
     /// it has gained only events of this call, and histories that agreed with it still agree.
-    pub fn make_room(
-        &mut self,
-        alloc: Global,
-        class: &mut ClassState,
-        who: Who,
-        moment: u64,
-        config: &Config,
-    ) -> Result<bool, Fault>
-        requires config { IsClassOf config.now class.old }
-        requires gate { Serves self.old.number.0 self.old.stripe.now config.now }
-        ensures room { IfOk result (λ found. (xs : List Answer) × (self.new.answers.now.items ≡ self.old.answers.now.items ++ xs)
-            × IsRoom (rounds class.old who moment config.now) class.old.history xs class.new.history found) }
-        ensures err { OnErr result ((xs : List Answer) × (self.new.answers.now.items ≡ self.old.answers.now.items ++ xs)
-            × BreaksRoom (rounds class.old who moment config.now) class.old.history xs class.new.history) }
+    pub fn make_room(&mut self, context: Context<'_>, class: &mut ClassState) -> Result<bool, Fault>
+        requires config { IsClassOf context.config.now class.old }
+        requires gate { Serves self.old.number.0 self.old.stripe.now context.config.now }
+        ensures room { IfOk result (λ found. (xs : List Answer) × (self.new.answers.now.items ≡ self.old.answers.now.items ++ xs) × IsRoom (rounds_by
+            class.old context.entry) class.old.history xs class.new.history found) }
+        ensures err { OnErr result ((xs : List Answer) × (self.new.answers.now.items ≡ self.old.answers.now.items ++ xs) × BreaksRoom (rounds_by class.old
+            context.entry) class.old.history xs class.new.history) }
         ensures fault { IfErr result (MayFail class.new self.new.stripe.now) }
         ensures grows { GainsEvents class.old class.new }
         ensures same_reference { self.new.stripe.ghost_name ≡ self.old.stripe.ghost_name }
-        ensures walked { Walked (walker_of class.old who moment) self.old.stripe.now class.old.history self.new.stripe.now class.new.history }
-        ensures serves { Serves self.new.number.0 self.new.stripe.now config.now }
+        ensures walked { Walked (walker_by class.old context.entry) self.old.stripe.now class.old.history self.new.stripe.now class.new.history }
+        ensures serves { Serves self.new.number.0 self.new.stripe.now context.entry.config.now }
     {
-        make_room(alloc, class, who, moment, config, self)
+        make_room(context, class, self)
     }
 
     /// Juggles a class as `juggle` does. The contract adds the same as that of `make_room`.
-    pub fn juggle(
-        &mut self,
-        alloc: Global,
-        class: &mut ClassState,
-        who: Who,
-        moment: u64,
-        config: &Config,
-    ) -> Result<Moves, Fault>
-        requires config { IsClassOf config.now class.old }
-        requires gate { Serves self.old.number.0 self.old.stripe.now config.now }
-        ensures juggle { IfOk result (λ moves. (xs : List Answer) × (self.new.answers.now.items ≡ self.old.answers.now.items ++ xs)
-            × IsJuggle (rounds class.old who moment config.now) class.old.history xs class.new.history moves) }
-        ensures err { IfErr result (λ fault. (xs : List Answer) × (self.new.answers.now.items ≡ self.old.answers.now.items ++ xs)
-            × BreaksJuggle (rounds class.old who moment config.now) (MayFail class.new self.new.stripe.now) fault class.old.history xs class.new.history) }
+    pub fn juggle(&mut self, context: Context<'_>, class: &mut ClassState) -> Result<Moves, Fault>
+        requires config { IsClassOf context.config.now class.old }
+        requires gate { Serves self.old.number.0 self.old.stripe.now context.config.now }
+        ensures juggle { IfOk result (λ moves. (xs : List Answer) × (self.new.answers.now.items ≡ self.old.answers.now.items ++ xs) × IsJuggle (rounds_by
+            class.old context.entry) class.old.history xs class.new.history moves) }
+        ensures err { IfErr result (λ fault. (xs : List Answer) × (self.new.answers.now.items ≡ self.old.answers.now.items ++ xs) × BreaksJuggle (rounds_by
+            class.old context.entry) (MayFail class.new self.new.stripe.now) fault class.old.history xs class.new.history) }
         ensures few { IfOk result (λ moves. moves.reclaimed + moves.moved ≤ 10000) }
         ensures fault { IfErr result (MayFail class.new self.new.stripe.now) }
         ensures grows { GainsEvents class.old class.new }
         ensures same_reference { self.new.stripe.ghost_name ≡ self.old.stripe.ghost_name }
-        ensures walked { Walked (walker_of class.old who moment) self.old.stripe.now class.old.history self.new.stripe.now class.new.history }
-        ensures serves { Serves self.new.number.0 self.new.stripe.now config.now }
+        ensures walked { Walked (walker_by class.old context.entry) self.old.stripe.now class.old.history self.new.stripe.now class.new.history }
+        ensures serves { Serves self.new.number.0 self.new.stripe.now context.entry.config.now }
     {
-        juggle(alloc, class, who, moment, config, self)
+        juggle(context, class, self)
     }
 }

@@ -6,11 +6,12 @@ ghost use Rattle.mc_stripe.specs.{StripeState.cache_now, StripeCalls.KeepsSite};
 ghost use Rattle.mc_pull.specs.{Agreeing.KeepsAgreement, Judgement.done_of, Looks.answer_by, Looks.judgement, Looks.events_if, Looks.IsJudged};
 ghost use Rattle.mc_pull.specs.{Looks.IsJudgedIf};
 ghost use Rattle.mc_pull.specs.{Refusal.MayFail, Refusal.MayRefuseFor, Settled.class_with, Settled.IsSettled, Sight.KeepsSight, Walker.walker_of};
-ghost use Rattle.mc_pull.specs.Question.{question, question_of, HasKeyOf, IsAsked, IsClassOf, MayJudge};
+ghost use Rattle.mc_pull.specs.Question.{question_by, question_of, HasKeyOf, IsAsked, IsClassOf, MayJudge};
 
+use crate::context::Context;
 use crate::judge::{Ask, Done, Judge};
 use crate::settling::settle_ask;
-use mc_item::{Config, Fault, StripeNo, Who};
+use mc_item::{Fault, StripeNo};
 use mc_segment::ClassState;
 use mc_stripe::StripeState;
 use std::alloc::Global;
@@ -41,29 +42,26 @@ pub struct Look<'a> {
 impl<'a> Look<'a> {
     /// Returns a look at an entry that isn't judged yet. It takes no memory.
     pub fn new(
-        alloc: Global,
+        context: Context<'a>,
         class: &'a mut ClassState,
-        who: Who,
         number: u64,
         judge: &'a Judge,
-        moment: u64,
-        config: &'a Config,
     ) -> Look<'a>
         ensures same_reference { result.class.ghost_name ≡ class.entry.ghost_name }
         ensures class { result.class.now ≡ class.old }
-        ensures ask { question_of result.ask ≡ question who number judge.now moment }
-        ensures config { result.ask.config.now ≡ config.now }
+        ensures ask { question_of result.ask ≡ question_by context.entry number judge.now }
+        ensures config { result.ask.config.now ≡ context.entry.config.now }
         ensures judged { result.judged ≡ None }
     {
         Look {
-            alloc,
+            alloc: context.alloc,
             class,
             ask: Ask {
-                who,
+                who: context.turn.who,
                 number,
                 judge,
-                moment,
-                config,
+                moment: context.turn.moment,
+                config: context.config,
             },
             judged: None,
         }
@@ -77,18 +75,18 @@ impl<'a> Look<'a> {
         requires once { self.old.judged ≡ None }
         ensures same_reference { self.new.class.ghost_name ≡ self.old.class.ghost_name }
         ensures ask { self.new.ask ≡ self.old.ask }
-        ensures done { IfOk result (λ made. (made ≡ done_of self.old.class.now (cache_now stripe.old) (question_of self.old.ask))
-            × (self.new.judged ≡ Some (judgement made (length stripe.old.history)))) }
+        ensures done { IfOk result (λ made. (made ≡ done_of self.old.class.now (cache_now stripe.old) (question_of self.old.ask)) × (self.new.judged ≡ Some
+            (judgement made (length stripe.old.history)))) }
         ensures settled { IfOk result (λ made. IsSettled self.old.class.now self.new.class.now stripe.old stripe.new (question_of self.old.ask) made) }
         ensures agreement { KeepsAgreement self.old.class.now self.new.class.now stripe.old stripe.new }
         ensures sight { KeepsSight self.old.class.now self.new.class.now stripe.old stripe.new }
-        ensures judged { IfOk result (λ made. IsJudged self.old.ask.config.now (record { 0 = stripe.old.site.stripe }) self.old.class.now
-            (question_of self.old.ask) (judgement made (length stripe.old.history))) }
+        ensures judged { IfOk result (λ made. IsJudged self.old.ask.config.now (record { 0 = stripe.old.site.stripe }) self.old.class.now (question_of
+            self.old.ask) (judgement made (length stripe.old.history))) }
         ensures err { OnErr result ((self.new.class.now ≡ with_room self.old.class.now self.new.class.now.room) × (stripe.new.history ≡ stripe.old.history)) }
         ensures site { KeepsSite stripe.old stripe.new }
         ensures full { IfErr result (MayFail self.new.class.now stripe.new) }
-        ensures refusal { IfErr result (MayRefuseFor self.old.class.now stripe.old
-            (done_of self.old.class.now (cache_now stripe.old) (question_of self.old.ask))) }
+        ensures refusal { IfErr result (MayRefuseFor self.old.class.now stripe.old (done_of self.old.class.now (cache_now stripe.old) (question_of
+            self.old.ask))) }
     {
         let at = stripe.history().len() as u64;
         let class = &mut *self.class;
@@ -133,13 +131,12 @@ pub trait Gate {
         ensures same_reference { look.new.class.ghost_name ≡ look.old.class.ghost_name }
         ensures holds { references self.new ≡ references self.old }
         ensures answer { IfOk result (λ had. (is_some look.new.judged ≡ had) × (answers self.new ≡ answers self.old ++ answer_by stripe look.new.judged ∷ [])) }
-        ensures class { OnOk result (look.new.class.now ≡ class_with look.old.class.now
-            (events_if look.old.class.now (question_of look.old.ask) look.new.judged) look.new.class.now.room) }
+        ensures class { OnOk result (look.new.class.now ≡ class_with look.old.class.now (events_if look.old.class.now (question_of look.old.ask)
+            look.new.judged) look.new.class.now.room) }
         ensures judged { OnOk result (IsJudgedIf look.old.ask.config.now stripe look.old.class.now (question_of look.old.ask) look.new.judged) }
         ensures err { OnErr result ((look.new.class.now ≡ with_room look.old.class.now look.new.class.now.room) × (answers self.new ≡ answers self.old)) }
         ensures fault { IfErr result (faults self.new look.new.class.now) }
         ensures serves { serves self.new look.old.ask.config.now look.new.class.now }
-        ensures kept { (g : Self) (h : List ClassEvent)
-            → keeps (walker_of look.old.class.now look.old.ask.who look.old.ask.moment) g h self.old look.old.class.now.history
-            → keeps (walker_of look.old.class.now look.old.ask.who look.old.ask.moment) g h self.new look.new.class.now.history };
+        ensures kept { (g : Self) (h : List ClassEvent) → keeps (walker_of look.old.class.now look.old.ask.who look.old.ask.moment) g h self.old
+            look.old.class.now.history → keeps (walker_of look.old.class.now look.old.ask.who look.old.ask.moment) g h self.new look.new.class.now.history };
 }

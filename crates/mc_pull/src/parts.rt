@@ -1,7 +1,7 @@
 //! A class's part of a command: which of its entries are added or removed.
 ghost use Rattle.std.specs.Prelude.{◌≡◌, ◌≤◌, ◌^◌, true, IfSome};
 ghost use Rattle.mc_rule.specs.{Lists.HasFree, Lists.lists_of, Lawful.IsListed};
-ghost use Rattle.mc_segment.specs.Entries.{entry_of};
+ghost use Rattle.mc_segment.specs.{ClassState.ClassView, Entries.entry_of};
 ghost use Rattle.mc_pull.specs.Parts as words;
 ghost use Rattle.mc_pull.specs.Parts.{MayMake};
 
@@ -73,20 +73,12 @@ pub(crate) fn is_here(class: &ClassState, room: Room) -> bool
 
 /// The part if a new version's entry is added to the class. `old` is the replaced item's entry, if that is in the class too.
 #[inline(always)]
-pub(crate) fn linked_part(
-    class: &ClassState,
-    key: Key,
-    cost: u64,
-    expiry: Expiry,
-    old: Option<u64>,
-) -> Part
-    requires free { HasFree class.now.chunks class.now.history }
+pub(crate) fn linked_part(key: Key, cost: u64, expiry: Expiry, old: Option<u64>) -> Part
     requires cost { cost ≤ 2 ^ 20 }
-    requires old { IfSome old (λ number. IsListed number (lists_of class.now.history)) }
     ensures part { result ≡ words.new_part key cost expiry true old }
-    ensures may { MayMake class.now result }
+    ensures may { (class : ClassView) → HasFree class.chunks class.history → IfSome old (λ number. IsListed number (lists_of class.history))
+        → MayMake class result }
 {
-    let _class = class;
     match old {
         None => Part::Links { key, cost, expiry },
         Some(number) => Part::Renews {
@@ -100,12 +92,10 @@ pub(crate) fn linked_part(
 
 // The part if an item is removed: its entry, if the class has it, is removed.
 #[inline(always)]
-pub(crate) fn gone_part(class: &ClassState, number: Option<u64>) -> Part
-    requires { IfSome number (λ number. IsListed number (lists_of class.now.history)) }
+pub(crate) fn gone_part(number: Option<u64>) -> Part
     ensures part { result ≡ words.gone_part number }
-    ensures may { MayMake class.now result }
+    ensures may { (class : ClassView) → IfSome number (λ number. IsListed number (lists_of class.history)) → MayMake class result }
 {
-    let _class = class;
     match number {
         None => Part::Nothing,
         Some(number) => Part::Unlinks(number),

@@ -1,20 +1,20 @@
 //! Walks along a list from its tail.
-ghost use Rattle.std.specs.Prelude.{◌≡◌, ◌<◌, ◌≤◌, ◌++◌, ◌∷◌, [], List, true, false, length, take, reverse, IfOk, IfErr, OnErr};
+ghost use Rattle.std.specs.Prelude.{◌≡◌, ◌<◌, ◌≤◌, ◌++◌, ◌∷◌, [], ℕ, List, true, false, length, take, reverse, IfOk, IfErr, OnErr};
 ghost use Rattle.mc_rule.specs.{Lists.lists_of, Lists.list_of, Segment.numbers_of};
 ghost use Rattle.mc_segment.specs.ClassState.{with_room};
 ghost use Rattle.mc_pull.specs.{Growth.GainsEvents, Growth.GainsFor, Growth.KeepsSince, Growth.looks_for_chunk};
-ghost use Rattle.mc_pull.specs.{Looks.answer_by, Looks.events_if, Looks.IsJudgedIf, Pulled.sum_of, Question.question};
-ghost use Rattle.mc_pull.specs.{Question.HasKeyOf, Question.IsClassOf, Question.MayJudge, Question.MayWalk, Settled.class_with, Walker.walker_of};
+ghost use Rattle.mc_pull.specs.{Looks.answer_by, Looks.events_if, Looks.IsJudgedIf, Pulled.sum_of, Question.question_by};
+ghost use Rattle.mc_pull.specs.{Question.HasKeyOf, Question.IsClassOf, Question.MayJudge, Question.MayWalk, Settled.class_with, Walker.walker_by};
 ghost use Rattle.mc_pull.specs.Walk as words;
-ghost use Rattle.mc_pull.specs.Walk.{pull, way, step, IsAnswer, IsWalk, IsBrokenWalk};
+ghost use Rattle.mc_pull.specs.Walk.{pull_by, way, step, IsAnswer, IsWalk, IsBrokenWalk};
 ghost use Rattle.mc_pull.specs.declared.looking.Answer.{Answer};
 
+use crate::context::Context;
 use crate::judge::{Judge, Mode};
 use crate::looking::{Answer, Gate, Judged, Look};
 use crate::pulled::{Pulled, ends_with};
-use mc_item::{Config, Fault, Passed, Seg, StripeNo, Who, stripe_of};
+use mc_item::{Fault, Passed, Seg, StripeNo, stripe_of};
 use mc_segment::ClassState;
-use std::alloc::Global;
 
 // The most entries that a walk looks at (own).
 const MOST_LOOKS: u64 = 5;
@@ -46,31 +46,28 @@ fn is_wanted(class: &ClassState, mode: Mode) -> bool
 
 // Looks at one entry through the gate.
 pub(crate) fn look_at<G: Gate>(
-    alloc: Global,
+    context: Context<'_>,
     class: &mut ClassState,
     stripe: StripeNo,
-    who: Who,
     number: u64,
     judge: &Judge,
-    moment: u64,
-    config: &Config,
     gate: &mut G,
 ) -> Result<Option<Judged>, Fault>
-    requires config { IsClassOf config.now class.old }
-    requires judge { MayJudge class.old (question who number judge.now moment) }
-    requires key { HasKeyOf stripe config.now class.old (question who number judge.now moment) }
-    requires gate { G.serves gate.old config.now class.old }
+    requires config { IsClassOf context.config.now class.old }
+    requires judge { MayJudge class.old (question_by context number judge.now) }
+    requires key { HasKeyOf stripe context.config.now class.old (question_by context number judge.now) }
+    requires gate { G.serves gate.old context.config.now class.old }
     ensures answer { IfOk result (λ judged. G.answers gate.new ≡ G.answers gate.old ++ answer_by stripe judged ∷ []) }
-    ensures class { IfOk result (λ judged. class.new ≡ class_with class.old (events_if class.old (question who number judge.now moment) judged)
+    ensures class { IfOk result (λ judged. class.new ≡ class_with class.old (events_if class.old (question_by context.entry number judge.now) judged)
         class.new.room) }
-    ensures judged { IfOk result (λ judged. IsJudgedIf config.now stripe class.old (question who number judge.now moment) judged) }
+    ensures judged { IfOk result (λ judged. IsJudgedIf context.entry.config.now stripe class.old (question_by context.entry number judge.now) judged) }
     ensures err { OnErr result ((class.new ≡ with_room class.old class.new.room) × (G.answers gate.new ≡ G.answers gate.old)) }
     ensures fault { IfErr result (G.faults gate.new class.new) }
     ensures holds { G.references gate.new ≡ G.references gate.old }
-    ensures serves { G.serves gate.new config.now class.new }
-    ensures kept { KeepsSince (G.keeps (walker_of class.old who moment)) gate.old class.old.history gate.new class.new.history }
+    ensures serves { G.serves gate.new context.entry.config.now class.new }
+    ensures kept { KeepsSince (G.keeps (walker_by class.old context.entry)) gate.old class.old.history gate.new class.new.history }
 {
-    let mut look = Look::new(alloc, class, who, number, judge, moment, config);
+    let mut look = Look::new(context, class, number, judge);
     gate.visit(stripe, &mut look)?;
     let judged = look.judged;
     Ok(judged)
@@ -78,47 +75,39 @@ pub(crate) fn look_at<G: Gate>(
 
 // Looks at the next entry of a walk.
 fn look_next<G: Gate>(
-    alloc: Global,
+    context: Context<'_>,
     class: &mut ClassState,
     seg: Seg,
     mode: Mode,
-    left: u64,
     pulled: Pulled,
-    who: Who,
-    moment: u64,
-    config: &Config,
     gate: &mut G,
 ) -> Result<Answer, Fault>
-    requires left { 0 < left }
     requires wanted { words.is_wanted mode class.old.chunks class.old.history ≡ true }
     requires few { pulled.passed ≤ 4 }
     requires there { pulled.passed < length (list_of (lists_of class.old.history) seg) }
-    requires walk { MayWalk class.old seg mode who moment }
-    requires config { IsClassOf config.now class.old }
-    requires gate { G.serves gate.old config.now class.old }
-    ensures answer { IfOk result (λ a. IsAnswer (pull class.old seg mode who moment config.now) (way class.old.history left pulled false) a
-        × (G.answers gate.new ≡ G.answers gate.old ++ a ∷ [])) }
-    ensures class { IfOk result (λ a. class.new.history
-        ≡ (step (pull class.old seg mode who moment config.now) (way class.old.history left pulled false) a).history) }
+    requires walk { MayWalk class.old seg mode context.turn.who context.turn.moment }
+    requires config { IsClassOf context.config.now class.old }
+    requires gate { G.serves gate.old context.config.now class.old }
+    ensures answer { (left : ℕ) → 0 < left → IfOk result (λ a. IsAnswer (pull_by class.old seg mode context.entry) (way class.old.history left pulled false)
+        a × (G.answers gate.new ≡ G.answers gate.old ++ a ∷ [])) }
+    ensures class { (left : ℕ) → IfOk result (λ a. class.new.history ≡ (step (pull_by class.old seg mode context.entry) (way class.old.history left pulled
+        false) a).history) }
     ensures grows { GainsEvents class.old class.new }
     ensures err { OnErr result ((class.new.history ≡ class.old.history) × (G.answers gate.new ≡ G.answers gate.old)) }
     ensures fault { IfErr result (G.faults gate.new class.new) }
     ensures holds { G.references gate.new ≡ G.references gate.old }
-    ensures serves { G.serves gate.new config.now class.new }
-    ensures kept { KeepsSince (G.keeps (walker_of class.old who moment)) gate.old class.old.history gate.new class.new.history }
+    ensures serves { G.serves gate.new context.entry.config.now class.new }
+    ensures kept { KeepsSince (G.keeps (walker_by class.old context.entry)) gate.old class.old.history gate.new class.new.history }
 {
-    let _left = left;
     let entry = class.from_tail(seg, pulled.passed).unwrap();
     let number = entry.number;
-    let stripe = stripe_of(&entry.key, config.stripes);
+    let stripe = stripe_of(&entry.key, context.config.stripes);
     let judge = Judge::Walk {
         seg,
         mode,
         passed: passed_behind(class, seg, pulled.passed),
     };
-    let judged = look_at(
-        alloc, class, stripe, who, number, &judge, moment, config, gate,
-    )?;
+    let judged = look_at(context, class, stripe, number, &judge, gate)?;
     Ok(Answer { stripe, judged })
 }
 
@@ -128,28 +117,25 @@ fn look_next<G: Gate>(
 /// `Plain` must name a survey of this class, by this call and at this moment. `Evict` walks only COLD, `Force` only HOT.
 /// Errors: the gate's faults. Events made so far remain.
 pub fn pull_tail<G: Gate>(
-    alloc: Global,
+    context: Context<'_>,
     class: &mut ClassState,
     seg: Seg,
     mode: Mode,
-    who: Who,
-    moment: u64,
-    config: &Config,
     gate: &mut G,
 ) -> Result<Pulled, Fault>
-    requires walk { MayWalk class.old seg mode who moment }
-    requires config { IsClassOf config.now class.old }
-    requires gate { G.serves gate.old config.now class.old }
-    ensures walk { IfOk result (λ pulled. (xs : List Answer) × (G.answers gate.new ≡ G.answers gate.old ++ xs)
-        × IsWalk (pull class.old seg mode who moment config.now) xs class.new.history pulled) }
-    ensures err { OnErr result ((xs : List Answer) × (G.answers gate.new ≡ G.answers gate.old ++ xs)
-        × IsBrokenWalk (pull class.old seg mode who moment config.now) xs class.new.history) }
+    requires walk { MayWalk class.old seg mode context.turn.who context.turn.moment }
+    requires config { IsClassOf context.config.now class.old }
+    requires gate { G.serves gate.old context.config.now class.old }
+    ensures walk { IfOk result (λ pulled. (xs : List Answer) × (G.answers gate.new ≡ G.answers gate.old ++ xs) × IsWalk (pull_by class.old seg mode
+        context.entry) xs class.new.history pulled) }
+    ensures err { OnErr result ((xs : List Answer) × (G.answers gate.new ≡ G.answers gate.old ++ xs) × IsBrokenWalk (pull_by class.old seg mode
+        context.entry) xs class.new.history) }
     ensures gains { GainsFor (looks_for_chunk mode) class.old class.new }
     ensures few { IfOk result (λ pulled. sum_of pulled ≤ 5) }
     ensures fault { IfErr result (G.faults gate.new class.new) }
     ensures holds { G.references gate.new ≡ G.references gate.old }
-    ensures serves { G.serves gate.new config.now class.new }
-    ensures kept { KeepsSince (G.keeps (walker_of class.old who moment)) gate.old class.old.history gate.new class.new.history }
+    ensures serves { G.serves gate.new context.entry.config.now class.new }
+    ensures kept { KeepsSince (G.keeps (walker_by class.old context.entry)) gate.old class.old.history gate.new class.new.history }
 {
     let mut left = class.len(seg).min(MOST_LOOKS);
     let mut pulled = Pulled::none();
@@ -157,9 +143,7 @@ pub fn pull_tail<G: Gate>(
         if !is_wanted(class, mode) {
             break;
         }
-        let answer = look_next(
-            alloc, class, seg, mode, left, pulled, who, moment, config, gate,
-        )?;
+        let answer = look_next(context, class, seg, mode, pulled, gate)?;
         left -= 1;
         pulled = pulled.counted(answer.judged);
         if ends_with(answer.judged) {

@@ -1,16 +1,24 @@
 //! Rounds of walks that make room in a full class.
 ghost use Rattle.std.specs.Prelude.{◌≡◌, ◌++◌, List, false, IfOk, IfErr, OnErr};
-ghost use Rattle.mc_pull.specs.{Growth.GainsEvents, Growth.KeepsSince, Question.IsClassOf, Rounds.rounds, Rounds.IsRoomRound, Rounds.IsRoom, Walker.walker_of};
+ghost use Rattle.mc_pull.specs.{
+  Growth.GainsEvents,
+  Growth.KeepsSince,
+  Question.IsClassOf,
+  Rounds.rounds_by,
+  Rounds.IsRoomRound,
+  Rounds.IsRoom,
+  Walker.walker_by,
+};
 ghost use Rattle.mc_pull.specs.Rounds as words;
 ghost use Rattle.mc_pull.specs.Broken.{BreaksRoomRound, BreaksRoom};
 ghost use Rattle.mc_pull.specs.declared.looking.Answer.{Answer};
 
+use crate::context::Context;
 use crate::judge::Mode;
 use crate::looking::Gate;
 use crate::pulling::pull_tail;
-use mc_item::{Config, Fault, Seg, Who};
+use mc_item::{Fault, Seg};
 use mc_segment::ClassState;
-use std::alloc::Global;
 
 // The most rounds in a search for a chunk (own).
 const MOST_ROUNDS: u64 = 10;
@@ -23,80 +31,56 @@ fn is_free(class: &ClassState) -> bool
 
 // Makes one round in a full class: pulls COLD to evict an entry, and if that did nothing, HOT to force one to COLD.
 fn room_round<G: Gate>(
-    alloc: Global,
+    context: Context<'_>,
     class: &mut ClassState,
-    who: Who,
-    moment: u64,
-    config: &Config,
     gate: &mut G,
 ) -> Result<(), Fault>
     requires full { words.is_free class.old class.old.history ≡ false }
-    requires config { IsClassOf config.now class.old }
-    requires gate { G.serves gate.old config.now class.old }
-    ensures round { IfOk result (λ _. (xs : List Answer) × (G.answers gate.new ≡ G.answers gate.old ++ xs)
-        × IsRoomRound (rounds class.old who moment config.now) class.old.history xs class.new.history) }
-    ensures err { OnErr result ((xs : List Answer) × (G.answers gate.new ≡ G.answers gate.old ++ xs)
-        × BreaksRoomRound (rounds class.old who moment config.now) class.old.history xs class.new.history) }
+    requires config { IsClassOf context.config.now class.old }
+    requires gate { G.serves gate.old context.config.now class.old }
+    ensures round { IfOk result (λ _. (xs : List Answer) × (G.answers gate.new ≡ G.answers gate.old ++ xs) × IsRoomRound (rounds_by class.old context.entry)
+        class.old.history xs class.new.history) }
+    ensures err { OnErr result ((xs : List Answer) × (G.answers gate.new ≡ G.answers gate.old ++ xs) × BreaksRoomRound (rounds_by class.old context.entry)
+        class.old.history xs class.new.history) }
     ensures grows { GainsEvents class.old class.new }
     ensures fault { IfErr result (G.faults gate.new class.new) }
     ensures holds { G.references gate.new ≡ G.references gate.old }
-    ensures serves { G.serves gate.new config.now class.new }
-    ensures kept { KeepsSince (G.keeps (walker_of class.old who moment)) gate.old class.old.history gate.new class.new.history }
+    ensures serves { G.serves gate.new context.entry.config.now class.new }
+    ensures kept { KeepsSince (G.keeps (walker_by class.old context.entry)) gate.old class.old.history gate.new class.new.history }
 {
-    let pulled = pull_tail(
-        alloc,
-        class,
-        Seg::Cold,
-        Mode::Evict,
-        who,
-        moment,
-        config,
-        gate,
-    )?;
+    let pulled = pull_tail(context, class, Seg::Cold, Mode::Evict, gate)?;
     if pulled.did_something() {
         return Ok(());
     }
-    pull_tail(
-        alloc,
-        class,
-        Seg::Hot,
-        Mode::Force,
-        who,
-        moment,
-        config,
-        gate,
-    )?;
+    pull_tail(context, class, Seg::Hot, Mode::Force, gate)?;
     Ok(())
 }
 
 /// Makes room in a class, and returns whether a chunk is free. It takes up to ten rounds, until one is. A round pulls COLD to
 /// evict an entry, and if that did nothing, HOT to force one to COLD. Errors: the gate's faults. Events made so far remain.
 pub fn make_room<G: Gate>(
-    alloc: Global,
+    context: Context<'_>,
     class: &mut ClassState,
-    who: Who,
-    moment: u64,
-    config: &Config,
     gate: &mut G,
 ) -> Result<bool, Fault>
-    requires config { IsClassOf config.now class.old }
-    requires gate { G.serves gate.old config.now class.old }
-    ensures room { IfOk result (λ found. (xs : List Answer) × (G.answers gate.new ≡ G.answers gate.old ++ xs)
-        × IsRoom (rounds class.old who moment config.now) class.old.history xs class.new.history found) }
-    ensures err { OnErr result ((xs : List Answer) × (G.answers gate.new ≡ G.answers gate.old ++ xs)
-        × BreaksRoom (rounds class.old who moment config.now) class.old.history xs class.new.history) }
+    requires config { IsClassOf context.config.now class.old }
+    requires gate { G.serves gate.old context.config.now class.old }
+    ensures room { IfOk result (λ found. (xs : List Answer) × (G.answers gate.new ≡ G.answers gate.old ++ xs) × IsRoom (rounds_by class.old context.entry)
+        class.old.history xs class.new.history found) }
+    ensures err { OnErr result ((xs : List Answer) × (G.answers gate.new ≡ G.answers gate.old ++ xs) × BreaksRoom (rounds_by class.old context.entry)
+        class.old.history xs class.new.history) }
     ensures grows { GainsEvents class.old class.new }
     ensures fault { IfErr result (G.faults gate.new class.new) }
     ensures holds { G.references gate.new ≡ G.references gate.old }
-    ensures serves { G.serves gate.new config.now class.new }
-    ensures kept { KeepsSince (G.keeps (walker_of class.old who moment)) gate.old class.old.history gate.new class.new.history }
+    ensures serves { G.serves gate.new context.entry.config.now class.new }
+    ensures kept { KeepsSince (G.keeps (walker_by class.old context.entry)) gate.old class.old.history gate.new class.new.history }
 {
     let mut left: u64 = MOST_ROUNDS;
     'rounds: while left > 0 {
         if is_free(class) {
             break;
         }
-        room_round(alloc, class, who, moment, config, gate)?;
+        room_round(context, class, gate)?;
         left -= 1;
     }
     Ok(is_free(class))

@@ -4,7 +4,7 @@ ghost use Rattle.mc_rule.specs.{Segment.rule_of, Lawful.IsListed, Lists.lists_of
 ghost use Rattle.mc_segment.specs.{ClassState.with_room, ClassState.HasPlaces, ClassState.MayRefuse, Entries.entry_of};
 ghost use Rattle.mc_stripe.specs.{StripeState.cache_now, StripeCalls.KeepsSite};
 ghost use Rattle.mc_pull.specs.{Agreeing.KeepsAgreement, Judgement.done_of, Settled.done_class_events, Settled.class_with, Settled.IsSettled, Sight.KeepsSight};
-ghost use Rattle.mc_pull.specs.Question.{question, question_of, IsAsked, IsClassOf, IsStripeOf, MayJudge};
+ghost use Rattle.mc_pull.specs.Question.{question_by, question_of, IsAsked, IsClassOf, IsStripeOf, MayJudge};
 ghost use Rattle.mc_pull.specs.Refusal.{HavePlaces, MayFail, MayRefuseBoth, MayRefuseFor};
 ghost use Rattle.mc_pull.specs.Settled as words;
 ghost use Rattle.mc_pull.specs.Outcome as table;
@@ -12,9 +12,10 @@ ghost use Rattle.mc_pull.specs.declared.judge.Done.TheVariants as done;
 ghost use Rattle.mc_pull.specs.declared.judge.Judge.TheVariants as judges;
 
 use crate::certain;
+use crate::context::Context;
 use crate::judge::{Ask, Done, Judge, Mode};
 use crate::verdict::{is_over, verdict};
-use mc_item::{Config, Fault, Key, Passed, Seg, Who, Why};
+use mc_item::{Config, Fault, Key, Passed, Seg, Why};
 use mc_segment::ClassState;
 use mc_stripe::StripeState;
 use std::alloc::Global;
@@ -137,17 +138,16 @@ fn settle_active(
     class: &mut ClassState,
     stripe: &mut StripeState,
     ask: &Ask<'_>,
-    made: Done,
 ) -> Result<(), Fault>
     requires asked { IsAsked class.old stripe.old ask.now }
-    requires done { done_of class.old (cache_now stripe.old) (question_of ask.now) ≡ made }
-    requires made { (made ≡ done.ToWarm) ⊎ (made ≡ done.WithinWarm) }
-    ensures settled { OnOk result (IsSettled class.old class.new stripe.old stripe.new (question_of ask.now) made) }
+    requires done { (done_of class.old (cache_now stripe.old) (question_of ask.now) ≡ done.ToWarm) ⊎ (done_of class.old (cache_now stripe.old) (question_of
+        ask.now) ≡ done.WithinWarm) }
+    ensures settled { OnOk result (IsSettled class.old class.new stripe.old stripe.new (question_of ask.now) (done_of class.old (cache_now stripe.old)
+        (question_of ask.now))) }
     ensures err { OnErr result ((class.new ≡ with_room class.old class.new.room) × (stripe.new.history ≡ stripe.old.history)) }
     ensures site { KeepsSite stripe.old stripe.new }
     ensures refusal { MatchResult result (λ _. HavePlaces class.old stripe.old) (MayRefuseBoth class.old stripe.old) }
 {
-    let _made = made;
     let key = prepare(alloc, class, stripe, ask.number, ask.config)?;
     let at = stripe.history().len() as u64;
     class.law();
@@ -214,8 +214,8 @@ fn settle_by(
     let made = verdict(class, stripe, ask.number, ask.judge, ask.moment, ask.config);
     match made {
         Done::Reclaimed => settle_dead(alloc, class, stripe, ask)?,
-        Done::ToWarm => settle_active(alloc, class, stripe, ask, made)?,
-        Done::WithinWarm => settle_active(alloc, class, stripe, ask, made)?,
+        Done::ToWarm => settle_active(alloc, class, stripe, ask)?,
+        Done::WithinWarm => settle_active(alloc, class, stripe, ask)?,
         Done::ToCold => match ask.judge {
             Judge::Walk { seg, mode, passed } => {
                 settle_cold(class, stripe, ask, *seg, *mode, passed)?
@@ -259,37 +259,34 @@ pub(crate) fn settle_ask(
 /// Errors: `HistoryFull` exactly if a history has no place for an event to be made, `NoMemory` only if an event is to be made.
 /// Neither history has changed then.
 pub fn settle(
-    alloc: Global,
+    context: Context<'_>,
     class: &mut ClassState,
     stripe: &mut StripeState,
-    who: Who,
     number: u64,
     judge: &Judge,
-    moment: u64,
-    config: &Config,
 ) -> Result<Done, Fault>
-    requires class { IsClassOf config.now class.old }
-    requires stripe { IsStripeOf config.now stripe.old }
-    requires judge { MayJudge class.old (question who number judge.now moment) }
-    ensures done { IfOk result (λ made. made ≡ done_of class.old (cache_now stripe.old) (question who number judge.now moment)) }
-    ensures settled { IfOk result (λ made. IsSettled class.old class.new stripe.old stripe.new (question who number judge.now moment) made) }
+    requires class { IsClassOf context.config.now class.old }
+    requires stripe { IsStripeOf context.config.now stripe.old }
+    requires judge { MayJudge class.old (question_by context number judge.now) }
+    ensures done { IfOk result (λ made. made ≡ done_of class.old (cache_now stripe.old) (question_by context.entry number judge.now)) }
+    ensures settled { IfOk result (λ made. IsSettled class.old class.new stripe.old stripe.new (question_by context.entry number judge.now) made) }
     ensures agreement { KeepsAgreement class.old class.new stripe.old stripe.new }
     ensures sight { KeepsSight class.old class.new stripe.old stripe.new }
     ensures err { OnErr result ((class.new ≡ with_room class.old class.new.room) × (stripe.new.history ≡ stripe.old.history)) }
     ensures site { KeepsSite stripe.old stripe.new }
     ensures full { IfErr result (MayFail class.new stripe.new) }
-    ensures refusal { IfErr result (MayRefuseFor class.old stripe.old (done_of class.old (cache_now stripe.old) (question who number judge.now moment))) }
+    ensures refusal { IfErr result (MayRefuseFor class.old stripe.old (done_of class.old (cache_now stripe.old) (question_by context.entry number judge.now))) }
 {
     settle_ask(
-        alloc,
+        context.alloc,
         class,
         stripe,
         &Ask {
-            who,
+            who: context.turn.who,
             number,
             judge,
-            moment,
-            config,
+            moment: context.turn.moment,
+            config: context.config,
         },
     )
 }

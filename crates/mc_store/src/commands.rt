@@ -12,6 +12,7 @@ use crate::named::Named;
 use crate::pass::Pass;
 use crate::replied::Replied;
 use crate::store::Store;
+use crate::task::Task;
 use mc_item::{
     Asking, ClassNo, Command, Config, Fault, Link, Reply, Verb, class_of, cost, stripe_of,
 };
@@ -106,12 +107,17 @@ impl<N: Named> Store<N> {
         let own = &mut *guard;
         let who = pass.take_turn_on(self, &asking, own)?;
         own.side.compare(&self.board, &mut pass.seen);
-        let turn = Turn { who, moment };
+        let task = Task {
+            alloc,
+            store: self,
+            command: &command,
+            turn: Turn { who, moment },
+        };
         let caller = &mut pass.caller;
         // A storage command is tried at once on its new version's class, if that is known, and any other on its stripe alone.
         let replied = match class_for(&self.config, &command) {
-            Some(class) => answer_for(alloc, self, rt, own, caller, &command, turn, class),
-            None => answer(alloc, self, rt, own, caller, &command, turn),
+            Some(class) => answer_for(task, rt, own, caller, class),
+            None => answer(task, rt, own, caller),
         };
         own.side.share(&self.board, &mut pass.seen);
         drop(guard);

@@ -18,8 +18,10 @@ use crate::owned_class::catch_up_class;
 use crate::pass::Pass;
 use crate::store::Store;
 use mc_crawl::{crawl_one, snapshot};
-use mc_item::{CallEvent, ClassNo, Config, Fault, Histogram, Link, Who, Worked};
+use mc_item::{CallEvent, ClassNo, Fault, Histogram, Link, Worked};
+use mc_pull::Context;
 use mc_segment::ClassState;
+use mc_stripe::Turn;
 use std::alloc::Global;
 use std::sync::Wait;
 
@@ -28,32 +30,32 @@ impl<'a, N: Named> Trying<'a, N> {
     // holds the same references, and the class gains only events of this call.
     fn crawl(
         &mut self,
-        alloc: Global,
+        context: Context<'_>,
         class: &mut ClassState,
         link: Link,
-        who: Who,
-        moment: u64,
         histogram: &mut Histogram,
-        config: &Config,
     ) -> Result<(), Fault>
-        requires config { IsClassOf config.now class.old }
-        requires names { config.now ≡ N.config }
+        requires config { IsClassOf context.config.now class.old }
+        requires names { context.config.now ≡ N.config }
         requires served { IsServed N.board.table N.config self.old.owner.now self.old.seen.now class.old }
         requires begun { HasBegun N.config self.old.seen.now.sight self.old.who self.old.moment }
         requires counts { MayCount histogram.old }
         ensures seen { OnOk result (histogram.new.seen ≡ histogram.old.seen + 1) }
         ensures balanced { IsBalanced histogram.old → IsBalanced histogram.new }
-        ensures reclaims { OnOk result (Reclaims who moment class.old.history class.new.history histogram.old.reclaimed histogram.new.reclaimed) }
-        ensures counted { OnOk result (CountsLink config.now class.old class.new who moment link histogram.old histogram.new) }
+        ensures reclaims { OnOk result (Reclaims context.entry.turn.who context.entry.turn.moment class.old.history class.new.history histogram.old.reclaimed
+            histogram.new.reclaimed) }
+        ensures counted { OnOk result (CountsLink context.entry.config.now class.old class.new context.entry.turn.who context.entry.turn.moment link
+            histogram.old histogram.new) }
         ensures err { OnErr result (class.new.history ≡ class.old.history) }
         ensures grows { classes.GainsEvents class.old class.new }
         ensures fault { IfErr result (MayFailSeen N.config self.new.seen.now.sight class.new) }
         ensures owner_reference { self.new.owner.ghost_name ≡ self.old.owner.ghost_name }
         ensures seen_reference { self.new.seen.ghost_name ≡ self.old.seen.ghost_name }
         ensures served { IsServed N.board.table N.config self.new.owner.now self.new.seen.now class.new }
-        ensures walked { WalksOwn who moment self.old.seen.now.sight self.new.seen.now.sight class.old.history class.new.history }
+        ensures walked { WalksOwn context.entry.turn.who context.entry.turn.moment self.old.seen.now.sight self.new.seen.now.sight class.old.history
+            class.new.history }
     {
-        crawl_one(alloc, class, link, who, moment, histogram, config, self)
+        crawl_one(context, class, link, histogram, self)
     }
 }
 
@@ -63,16 +65,16 @@ fn crawl_under<N: Named>(
     store: &Store<N>,
     class: &mut LockedClass<N>,
     link: Link,
-    who: Who,
-    moment: u64,
+    turn: Turn,
     histogram: &mut Histogram,
 ) -> Result<(), Fault>
-    requires begun { HasBegunAs N.config class.old.sight who moment (crawling_of class.old.class.number moment) }
+    requires begun { HasBegunAs N.config class.old.sight turn.who turn.moment (crawling_of class.old.class.number turn.moment) }
     requires counts { MayCount histogram.old }
     ensures seen { OnOk result (histogram.new.seen ≡ histogram.old.seen + 1) }
     ensures balanced { IsBalanced histogram.old → IsBalanced histogram.new }
-    ensures reclaims { OnOk result (Reclaims who moment class.old.class.history class.new.class.history histogram.old.reclaimed histogram.new.reclaimed) }
-    ensures counted { OnOk result (CountsLink N.config class.old.class class.new.class who moment link histogram.old histogram.new) }
+    ensures reclaims { OnOk result (Reclaims turn.who turn.moment class.old.class.history class.new.class.history histogram.old.reclaimed
+        histogram.new.reclaimed) }
+    ensures counted { OnOk result (CountsLink N.config class.old.class class.new.class turn.who turn.moment link histogram.old histogram.new) }
     ensures class { classes.GainsEvents class.old.class class.new.class }
     ensures fault { IfErr result (MayFailSeen N.config class.new.sight class.new.class) }
 {
@@ -83,11 +85,15 @@ fn crawl_under<N: Named>(
         owner: &mut side.owner,
         seen: &mut side.seen,
         answers: &mut answers,
-        who,
-        moment,
+        who: turn.who,
+        moment: turn.moment,
     };
-    let config = &store.config;
-    let done = gate.crawl(alloc, &mut side.state, link, who, moment, histogram, config);
+    let context = Context {
+        alloc,
+        turn,
+        config: &store.config,
+    };
+    let done = gate.crawl(context, &mut side.state, link, histogram);
     catch_up_class(&side.state, &mut side.owner, &store.board);
     done
 }
@@ -126,18 +132,18 @@ impl<N: Named> Store<N> {
         pass: &mut Pass<N>,
         class: ClassNo,
         link: Link,
-        who: Who,
-        moment: u64,
+        turn: Turn,
         histogram: &mut Histogram,
     ) -> Result<(), Fault>
         requires class { IsClass (setting_of N.config) class }
-        requires called { HasCalled (caller_of pass.old) who moment (crawling_of class moment) }
+        requires called { HasCalled (caller_of pass.old) turn.who turn.moment (crawling_of class turn.moment) }
         requires counts { MayCount histogram.old }
         ensures seen { OnOk result (histogram.new.seen ≡ histogram.old.seen + 1) }
         ensures balanced { IsBalanced histogram.old → IsBalanced histogram.new }
-        ensures reclaims { OnOk result (ShowsReclaims N.config class pass.old.sight pass.new.sight who moment histogram.old.reclaimed histogram.new.reclaimed) }
-        ensures counted { OnOk result (IsLinkCounted N.config class (list_at pass.old.sight.seen (class_lock N.config class))
-            (list_at pass.new.sight.seen (class_lock N.config class)) who moment link histogram.old histogram.new) }
+        ensures reclaims { OnOk result (ShowsReclaims N.config class pass.old.sight pass.new.sight turn.who turn.moment histogram.old.reclaimed
+            histogram.new.reclaimed) }
+        ensures counted { OnOk result (IsLinkCounted N.config class (list_at pass.old.sight.seen (class_lock N.config class)) (list_at pass.new.sight.seen
+            (class_lock N.config class)) turn.who turn.moment link histogram.old histogram.new) }
         ensures sound { IsSeenSound N.config class pass.new.sight }
         ensures grows { IsLater pass.old.sight pass.new.sight }
         ensures same { pass.new ≡ record pass.old { sight = pass.new.sight } }
@@ -147,7 +153,7 @@ impl<N: Named> Store<N> {
         let own = &mut *guard;
         own.side.compare(&self.board, &mut pass.seen);
         pass.caller.tell_class(&self.board, own);
-        let done = crawl_under(alloc, self, own, link, who, moment, histogram);
+        let done = crawl_under(alloc, self, own, link, turn, histogram);
         own.side.share(&self.board, &mut pass.seen);
         done
     }
@@ -188,8 +194,7 @@ impl<N: Named> Store<N> {
                 pass,
                 class,
                 links[i],
-                who,
-                moment,
+                Turn { who, moment },
                 &mut histogram,
             )?;
         }

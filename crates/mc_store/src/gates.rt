@@ -1,7 +1,7 @@
 //! Gates: how a walk under a class's lock reaches the stripes of its entries. A stripe's lock is tried, and never waited for.
 ghost use Rattle.std.specs.Prelude.{◌≡◌, ◌≢◌, ◌≤◌, ◌+◌, List, IfErr, IfOk, false, true};
-ghost use Rattle.mc_pull.specs.{Growth.GainsEvents, Growth.GainsFor, Juggle.IsJuggle, Lone.StripeGrows, Question.IsClassOf, Rounds.IsRoom, Rounds.rounds};
-ghost use Rattle.mc_pull.specs.Walker.{walker_of};
+ghost use Rattle.mc_pull.specs.{Growth.GainsEvents, Growth.GainsFor, Juggle.IsJuggle, Lone.StripeGrows, Question.IsClassOf, Rounds.IsRoom, Rounds.rounds_by};
+ghost use Rattle.mc_pull.specs.Walker.{walker_by};
 ghost use Rattle.mc_pull.specs.declared.looking.Answer.{Answer};
 ghost use Rattle.mc_store.specs.{Earned.IsSearchInVain, Looked.IsOfCall, Serving.IsServed, Serving.MayFailSeen, Locked.HasBegun};
 ghost use Rattle.mc_store.specs.Made.{SearchesOwn, WalksOwn};
@@ -11,10 +11,9 @@ use crate::locked::LockedStripe;
 use crate::named::Named;
 use crate::store::Store;
 use mc_board::{Owner, Seen};
-use mc_item::{Config, Fault, Moves, StripeNo, Who};
-use mc_pull::{Answer, Gate, Look, a_search_in_vain_has_tried, juggle, make_room};
+use mc_item::{Fault, Moves, StripeNo, Who};
+use mc_pull::{Answer, Context, Gate, Look, a_search_in_vain_has_tried, juggle, make_room};
 use mc_segment::ClassState;
-use std::alloc::Global;
 
 fn is_numbered<N: Named>(own: &LockedStripe<N>, number: StripeNo) -> bool
     ensures { result ≡ true → number ≡ record { 0 = own.now.stripe.site.stripe } }
@@ -50,27 +49,24 @@ impl<'a, N: Named> Trying<'a, N> {
     // references, and the class gains only events of this call.
     pub(crate) fn juggle(
         &mut self,
-        alloc: Global,
+        context: Context<'_>,
         class: &mut ClassState,
-        who: Who,
-        moment: u64,
-        config: &Config,
     ) -> Result<Moves, Fault>
-        requires config { IsClassOf config.now class.old }
-        requires names { config.now ≡ N.config }
+        requires config { IsClassOf context.config.now class.old }
+        requires names { context.config.now ≡ N.config }
         requires served { IsServed N.board.table N.config self.old.owner.now self.old.seen.now class.old }
         requires begun { HasBegun N.config self.old.seen.now.sight self.old.who self.old.moment }
-        ensures juggle { IfOk result (λ moves. (xs : List Answer)
-            × IsJuggle (rounds class.old who moment config.now) class.old.history xs class.new.history moves) }
+        ensures juggle { IfOk result (λ moves. (xs : List Answer) × IsJuggle (rounds_by class.old context.entry) class.old.history xs class.new.history moves) }
         ensures few { IfOk result (λ moves. moves.reclaimed + moves.moved ≤ 10000) }
         ensures gains { GainsFor false class.old class.new }
         ensures fault { IfErr result (MayFailSeen N.config self.new.seen.now.sight class.new) }
         ensures owner_reference { self.new.owner.ghost_name ≡ self.old.owner.ghost_name }
         ensures seen_reference { self.new.seen.ghost_name ≡ self.old.seen.ghost_name }
         ensures served { IsServed N.board.table N.config self.new.owner.now self.new.seen.now class.new }
-        ensures walked { WalksOwn who moment self.old.seen.now.sight self.new.seen.now.sight class.old.history class.new.history }
+        ensures walked { WalksOwn context.entry.turn.who context.entry.turn.moment self.old.seen.now.sight self.new.seen.now.sight class.old.history
+            class.new.history }
     {
-        juggle(alloc, class, who, moment, config, self)
+        juggle(context, class, self)
     }
 }
 
@@ -188,30 +184,27 @@ impl<'a, 'b, N: Named> Holding<'a, 'b, N> {
     // same references, its stripe and the class gain only events of this call and no survey, and a search that finds no chunk has tried.
     pub(crate) fn make_room(
         &mut self,
-        alloc: Global,
+        context: Context<'_>,
         class: &mut ClassState,
-        who: Who,
-        moment: u64,
-        config: &Config,
     ) -> Result<bool, Fault>
-        requires config { IsClassOf config.now class.old }
-        requires names { config.now ≡ N.config }
+        requires config { IsClassOf context.config.now class.old }
+        requires names { context.config.now ≡ N.config }
         requires served { IsServed N.board.table N.config self.old.others.owner.now self.old.others.seen.now class.old }
         requires begun { HasBegun N.config self.old.others.seen.now.sight self.old.others.who self.old.others.moment }
-        ensures room { IfOk result (λ found. (xs : List Answer)
-            × IsRoom (rounds class.old who moment config.now) class.old.history xs class.new.history found) }
+        ensures room { IfOk result (λ found. (xs : List Answer) × IsRoom (rounds_by class.old context.entry) class.old.history xs class.new.history found) }
         ensures grows { GainsEvents class.old class.new }
         ensures fault { IfErr result (MayFailSeen N.config self.new.others.seen.now.sight class.new) }
         ensures own_reference { self.new.own.ghost_name ≡ self.old.own.ghost_name }
         ensures owner_reference { self.new.others.owner.ghost_name ≡ self.old.others.owner.ghost_name }
         ensures seen_reference { self.new.others.seen.ghost_name ≡ self.old.others.seen.ghost_name }
         ensures served { IsServed N.board.table N.config self.new.others.owner.now self.new.others.seen.now class.new }
-        ensures stripe { StripeGrows (walker_of class.old who moment) self.old.own.now.stripe self.new.own.now.stripe }
-        ensures searched { SearchesOwn who moment self.old.others.seen.now.sight self.new.others.seen.now.sight class.old.history class.new.history }
-        ensures tried { IfOk result (λ found. found ≡ false → IsOfCall (walker_of class.old who moment) self.old.others.who self.old.others.moment
-            → IsSearchInVain N.config class.old self.old.own.now.stripe who moment class.new.history) }
+        ensures stripe { StripeGrows (walker_by class.old context.entry) self.old.own.now.stripe self.new.own.now.stripe }
+        ensures searched { SearchesOwn context.entry.turn.who context.entry.turn.moment self.old.others.seen.now.sight self.new.others.seen.now.sight
+            class.old.history class.new.history }
+        ensures tried { IfOk result (λ found. found ≡ false → IsOfCall (walker_by class.old context.entry) self.old.others.who self.old.others.moment →
+            IsSearchInVain N.config class.old self.old.own.now.stripe context.entry.turn.who context.entry.turn.moment class.new.history) }
     {
         a_search_in_vain_has_tried();
-        make_room(alloc, class, who, moment, config, self)
+        make_room(context, class, self)
     }
 }

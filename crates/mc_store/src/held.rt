@@ -16,14 +16,12 @@ use crate::locked::{LockedClass, LockedStripe};
 use crate::named::Named;
 use crate::pairing::{meet, refuse};
 use crate::replied::Replied;
-use crate::store::Store;
+use crate::task::Task;
 use crate::trying::{try_on_one, try_on_two};
 use crate::walking::make_room_under;
-use mc_board::Board;
-use mc_item::{Command, Fault};
+use mc_item::Fault;
 use mc_pull::{Tried, offer_home, offer_other, ready};
-use mc_stripe::{Given, Turn, Want};
-use std::alloc::Global;
+use mc_stripe::{Given, Want};
 use std::sync::MutexGuard;
 
 // Reserves memory for up to two more events of a class, as far as its history has places for them.
@@ -39,100 +37,91 @@ fn ready_class<N: Named>(class: &mut LockedClass<N>) -> Result<(), Fault>
 // Tries a command once on the class of its key's item, which it removes.
 #[inline(always)]
 fn try_other<N: Named>(
-    alloc: Global,
-    board: &Board,
+    task: Task<'_, N>,
     own: &mut LockedStripe<N>,
     other: &mut LockedClass<N>,
     caller: &mut Caller<N>,
-    command: &Command,
-    turn: Turn,
 ) -> Result<Tried, Fault>
-    requires board { board.now ≡ N.board }
-    requires called { IsCallOn N.config own.old.stripe caller.old command.now turn }
-    ensures tried { IfOk result (IsTriedOn N.config own.old.stripe own.new caller.old caller.new command.now turn None (Some other.old.class.number) ⊥) }
+    requires called { IsCallOn N.config own.old.stripe caller.old task.command.now task.turn }
+    ensures tried { IfOk result (IsTriedOn N.config own.old.stripe own.new caller.old caller.new task.entry.command.now task.entry.turn None (Some
+        other.old.class.number) ⊥) }
     ensures err { OnErr result ((own.new.stripe.history ≡ own.old.stripe.history) × (caller.new ≡ caller.old)) }
     ensures sees { Grows own.old.sight own.new.sight }
     ensures site { KeepsSite own.old.stripe own.new.stripe }
     ensures full { IsErrOf result HistoryFull → own.new.stripe.limit ≤ length own.new.stripe.history }
 {
-    meet(board, own, other);
+    let store = task.store;
+    meet(&store.board, own, other);
     ready_class(other)?;
     own.law();
     let given = Given {
         home: None,
         other: Some(offer_other(other.side().state())),
     };
-    try_on_one(alloc, board, own, other, caller, command, turn, given)
+    try_on_one(task, own, other, caller, given)
 }
 
 // Tries a command once on the class of its new version, and on that of its key's item if that is another one. `refused` is the
 // place of the refusal that the class noted for this call, if it did.
 #[inline(always)]
 pub(crate) fn try_home<N: Named>(
-    alloc: Global,
-    board: &Board,
+    task: Task<'_, N>,
     own: &mut LockedStripe<N>,
     home: &mut LockedClass<N>,
     other: &mut Option<MutexGuard<'_, LockedClass<N>>>,
     caller: &mut Caller<N>,
-    command: &Command,
-    turn: Turn,
     refused: Option<u64>,
 ) -> Result<Tried, Fault>
-    requires board { board.now ≡ N.board }
-    requires called { IsCallOn N.config own.old.stripe caller.old command.now turn }
+    requires called { IsCallOn N.config own.old.stripe caller.old task.command.now task.turn }
     requires apart { class_held other.old ≢ Some home.old.class.number }
-    requires refused { IsRefusedAt N.config own.old.stripe turn (key_of command.now) home.old.class refused }
-    ensures tried { IfOk result (IsTriedOn N.config own.old.stripe own.new caller.old caller.new command.now turn (Some home.old.class.number)
-        (class_held other.old) (IsStillFull N.config own.new.sight refused home.old.class home.new.class × (class_held other.new ≡ class_held other.old)
-        × WantsChunk home.old.class.number (class_held other.old) own.old.stripe command.now turn.moment)) }
+    requires refused { IsRefusedAt N.config own.old.stripe task.turn (key_of task.command.now) home.old.class refused }
+    ensures tried { IfOk result (IsTriedOn N.config own.old.stripe own.new caller.old caller.new task.entry.command.now task.entry.turn (Some
+        home.old.class.number) (class_held other.old) (IsStillFull N.config own.new.sight refused home.old.class home.new.class × (class_held other.new ≡
+        class_held other.old) × WantsChunk home.old.class.number (class_held other.old) own.old.stripe task.entry.command.now task.entry.turn.moment)) }
     ensures err { OnErr result ((own.new.stripe.history ≡ own.old.stripe.history) × (caller.new ≡ caller.old)) }
     ensures sees { Grows own.old.sight own.new.sight }
     ensures site { KeepsSite own.old.stripe own.new.stripe }
     ensures full { IsErrOf result HistoryFull → own.new.stripe.limit ≤ length own.new.stripe.history }
 {
+    let store = task.store;
     match other {
         None => {
-            meet(board, own, home);
+            meet(&store.board, own, home);
             ready_class(home)?;
             own.law();
             let given = Given {
-                home: Some(offer_home(home.side().state(), refused, turn)),
+                home: Some(offer_home(home.side().state(), refused, task.turn)),
                 other: None,
             };
-            try_on_one(alloc, board, own, home, caller, command, turn, given)
+            try_on_one(task, own, home, caller, given)
         }
         Some(guard) => {
             let beside = &mut **guard;
-            meet(board, own, home);
-            meet(board, own, beside);
+            meet(&store.board, own, home);
+            meet(&store.board, own, beside);
             ready_class(home)?;
             ready_class(beside)?;
             own.law();
             let given = Given {
-                home: Some(offer_home(home.side().state(), refused, turn)),
+                home: Some(offer_home(home.side().state(), refused, task.turn)),
                 other: Some(offer_other(beside.side().state())),
             };
-            try_on_two(
-                alloc, board, own, home, beside, caller, command, turn, given,
-            )
+            try_on_two(task, own, home, beside, caller, given)
         }
     }
 }
 
 // Looks for a chunk in the class of a new version, if none is free.
 fn search<N: Named>(
-    alloc: Global,
-    store: &Store<N>,
+    task: Task<'_, N>,
     own: &mut LockedStripe<N>,
     home: &mut LockedClass<N>,
-    turn: Turn,
 ) -> Result<(), Fault>
-    requires begun { HasBegunSearch N.config own.old.sight turn.who turn.moment }
-    ensures tried { OnOk result (IsFull home.new.class.chunks home.new.class.history → HasGivenUpAny N.config own.old.stripe turn home.new.class) }
-    ensures walked { IsWalked N.config turn home.old.class.number own.old.stripe own.new.stripe }
+    requires begun { HasBegunSearch N.config own.old.sight task.turn.who task.turn.moment }
+    ensures tried { OnOk result (IsFull home.new.class.chunks home.new.class.history → HasGivenUpAny N.config own.old.stripe task.entry.turn home.new.class) }
+    ensures walked { IsWalked N.config task.entry.turn home.old.class.number own.old.stripe own.new.stripe }
     ensures number { home.new.class.number ≡ home.old.class.number }
-    ensures begun { HasBegunSearch N.config own.new.sight turn.who turn.moment }
+    ensures begun { HasBegunSearch N.config own.new.sight task.entry.turn.who task.entry.turn.moment }
     ensures site { KeepsSite own.old.stripe own.new.stripe }
     ensures seen { (own.new ≡ own.old) ⊎ HasSeenFull N.config own.new.sight home.old.class.number }
     ensures full { IsErrOf result HistoryFull → HasSeenFull N.config own.new.sight home.old.class.number × HasSeenShort N.config own.new.sight }
@@ -140,47 +129,34 @@ fn search<N: Named>(
     if !home.side().state().is_full() {
         return Ok(());
     }
-    make_room_under(alloc, store, own, home, turn.who, turn.moment)?;
+    make_room_under(task, own, home)?;
     Ok(())
 }
 
 // Makes a command whose new version is of this class. Its key's item is of the other class, if that is held. If no chunk is free
 // it looks for one, and if it finds none, the class notes a refusal.
 pub(crate) fn answer_at_home<N: Named>(
-    alloc: Global,
-    store: &Store<N>,
+    task: Task<'_, N>,
     own: &mut LockedStripe<N>,
     home: &mut LockedClass<N>,
     other: &mut Option<MutexGuard<'_, LockedClass<N>>>,
     caller: &mut Caller<N>,
-    command: &Command,
-    turn: Turn,
 ) -> Result<Replied, Fault>
-    requires called { IsCallOn N.config own.old.stripe caller.old command.now turn }
-    requires begun { HasBegunAs N.config own.old.sight turn.who turn.moment (asked_for command.now turn.moment) }
+    requires called { IsCallOn N.config own.old.stripe caller.old task.command.now task.turn }
+    requires begun { HasBegunAs N.config own.old.sight task.turn.who task.turn.moment (asked_for task.command.now task.turn.moment) }
     requires apart { class_held other.old ≢ Some home.old.class.number }
-    requires wants { WantsChunk home.old.class.number (class_held other.old) own.old.stripe command.now turn.moment }
-    ensures { Ends N.config own.old.stripe own.new caller.old caller.new command.now turn result }
+    requires wants { WantsChunk home.old.class.number (class_held other.old) own.old.stripe task.command.now task.turn.moment }
+    ensures { Ends N.config own.old.stripe own.new caller.old caller.new task.entry.command.now task.entry.turn result }
 {
-    let board = &store.board;
+    let store = task.store;
     own.law();
-    search(alloc, store, own, home, turn)?;
-    match try_home(alloc, board, own, home, other, caller, command, turn, None)? {
+    search(task, own, home)?;
+    match try_home(task, own, home, other, caller, None)? {
         Tried::Made { reply, woken } => Ok(Replied { reply, woken }),
         Tried::Wants(want) => match want {
             Want::Room => {
-                let place = refuse(board, own, home, turn.who)?;
-                match try_home(
-                    alloc,
-                    board,
-                    own,
-                    home,
-                    other,
-                    caller,
-                    command,
-                    turn,
-                    Some(place),
-                )? {
+                let place = refuse(&store.board, own, home, task.turn.who)?;
+                match try_home(task, own, home, other, caller, Some(place))? {
                     Tried::Made { reply, woken } => Ok(Replied { reply, woken }),
                     Tried::Wants(_) => Err(Fault::HistoryFull),
                 }
@@ -194,20 +170,17 @@ pub(crate) fn answer_at_home<N: Named>(
 
 // Makes a command that needs only the class of its key's item.
 pub(crate) fn answer_at_item<N: Named>(
-    alloc: Global,
-    store: &Store<N>,
+    task: Task<'_, N>,
     own: &mut LockedStripe<N>,
     other: &mut LockedClass<N>,
     caller: &mut Caller<N>,
-    command: &Command,
-    turn: Turn,
 ) -> Result<Replied, Fault>
-    requires called { IsCallOn N.config own.old.stripe caller.old command.now turn }
-    requires suffice { Suffice None (Some other.old.class.number) own.old.stripe command.now turn.moment }
-    ensures { Ends N.config own.old.stripe own.new caller.old caller.new command.now turn result }
+    requires called { IsCallOn N.config own.old.stripe caller.old task.command.now task.turn }
+    requires suffice { Suffice None (Some other.old.class.number) own.old.stripe task.command.now task.turn.moment }
+    ensures { Ends N.config own.old.stripe own.new caller.old caller.new task.entry.command.now task.entry.turn result }
 {
     own.law();
-    match try_other(alloc, &store.board, own, other, caller, command, turn)? {
+    match try_other(task, own, other, caller)? {
         Tried::Made { reply, woken } => Ok(Replied { reply, woken }),
         Tried::Wants(_) => Err(Fault::HistoryFull),
     }

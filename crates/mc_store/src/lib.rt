@@ -29,9 +29,9 @@ mod replied;
 mod shelf;
 mod store;
 mod taking;
+mod task;
 mod tokens;
 mod trying;
-mod waiting;
 mod walking;
 
 pub use final_store::Final;

@@ -3,7 +3,7 @@ ghost use Rattle.std.specs.Prelude.{false, ◌≡◌, ◌+◌, ◌≤◌, IfOk, 
 ghost use Rattle.mc_evidence.specs.Setting.{IsClass};
 ghost use Rattle.mc_hits.specs.Views.{tables_of};
 ghost use Rattle.mc_pull.specs.Growth as classes;
-ghost use Rattle.mc_pull.specs.{Advance.MovesIf, Question.question, Question.IsClassOf};
+ghost use Rattle.mc_pull.specs.{Advance.MovesIf, Question.question, Question.question_by, Question.IsClassOf};
 ghost use Rattle.mc_pull.specs.declared.judge.Judge.TheVariants as judges;
 ghost use Rattle.mc_store.specs.{Callers.juggling_of, Calls.IsUpkept, Hits.IsAdvancedBy, Hits.IsAdvancedTill, Hits.Takes, Hits.queue_of};
 ghost use Rattle.mc_store.specs.{Locked.HasBegun, Locked.HasBegunAs, Locked.setting_of, Made.WalksOwn, Serving.IsServed, Serving.MayFailSeen};
@@ -15,8 +15,8 @@ use crate::owned_class::catch_up_class;
 use crate::store::Store;
 use crate::walking::juggle_under;
 use mc_hits::Hands;
-use mc_item::{Config, Fault, Moves};
-use mc_pull::advance;
+use mc_item::{Fault, Moves};
+use mc_pull::{Context, advance};
 use mc_segment::ClassState;
 use mc_stripe::Turn;
 use std::alloc::Global;
@@ -30,26 +30,25 @@ impl<'a, N: Named> Trying<'a, N> {
     // the same references, and the class gains only events of this call.
     fn advance(
         &mut self,
-        alloc: Global,
+        context: Context<'_>,
         class: &mut ClassState,
         number: u64,
-        turn: Turn,
-        config: &Config,
     ) -> Result<bool, Fault>
-        requires config { IsClassOf config.now class.old }
-        requires names { config.now ≡ N.config }
+        requires config { IsClassOf context.config.now class.old }
+        requires names { context.config.now ≡ N.config }
         requires served { IsServed N.board.table N.config self.old.owner.now self.old.seen.now class.old }
         requires begun { HasBegun N.config self.old.seen.now.sight self.old.who self.old.moment }
-        ensures moves { IfOk result (MovesIf (question turn.who number judges.Hit turn.moment) class.old.history class.new.history) }
+        ensures moves { IfOk result (MovesIf (question_by context.entry number judges.Hit) class.old.history class.new.history) }
         ensures err { OnErr result (class.new.history ≡ class.old.history) }
         ensures gains { classes.GainsFor false class.old class.new }
         ensures fault { IfErr result (MayFailSeen N.config self.new.seen.now.sight class.new) }
         ensures owner_reference { self.new.owner.ghost_name ≡ self.old.owner.ghost_name }
         ensures seen_reference { self.new.seen.ghost_name ≡ self.old.seen.ghost_name }
         ensures served { IsServed N.board.table N.config self.new.owner.now self.new.seen.now class.new }
-        ensures walked { WalksOwn turn.who turn.moment self.old.seen.now.sight self.new.seen.now.sight class.old.history class.new.history }
+        ensures walked { WalksOwn context.entry.turn.who context.entry.turn.moment self.old.seen.now.sight self.new.seen.now.sight class.old.history
+            class.new.history }
     {
-        advance(alloc, class, number, turn.who, turn.moment, config, self)
+        advance(context, class, number, self)
     }
 }
 
@@ -78,7 +77,12 @@ fn advance_under<N: Named>(
         who: turn.who,
         moment: turn.moment,
     };
-    let moved = gate.advance(alloc, &mut side.state, number, turn, &store.config);
+    let context = Context {
+        alloc,
+        turn,
+        config: &store.config,
+    };
+    let moved = gate.advance(context, &mut side.state, number);
     catch_up_class(&side.state, &mut side.owner, &store.board);
     moved
 }
@@ -133,5 +137,5 @@ pub(crate) fn upkeep_under<N: Named>(
     ensures fault { IfErr result (MayFailSeen N.config class.new.sight class.new.class) }
 {
     advance_hits(alloc, store, rt, class, hands, turn)?;
-    juggle_under(alloc, store, class, turn.who, turn.moment)
+    juggle_under(alloc, store, class, turn)
 }

@@ -12,11 +12,10 @@ use crate::locked::{LockedClass, LockedStripe};
 use crate::named::Named;
 use crate::owned_class::catch_up_class;
 use crate::pairing::put_if;
-use mc_board::Board;
-use mc_item::{Command, Fault};
+use crate::task::Task;
+use mc_item::Fault;
 use mc_pull::{Tried, attempt_none, attempt_one, attempt_two};
-use mc_stripe::{Given, Turn};
-use std::alloc::Global;
+use mc_stripe::Given;
 
 // Whether a try made its command.
 #[inline(always)]
@@ -33,28 +32,29 @@ fn is_made(tried: &Result<Tried, Fault>) -> bool
 // Tries a command once on its stripe alone.
 #[inline(always)]
 pub(crate) fn try_alone<N: Named>(
-    board: &Board,
+    task: Task<'_, N>,
     own: &mut LockedStripe<N>,
     caller: &mut Caller<N>,
-    command: &Command,
-    turn: Turn,
 ) -> Result<Tried, Fault>
-    requires board { board.now ≡ N.board }
-    requires asked { HasAsked caller.old turn.who command.now turn.moment }
-    requires may { MayTryOn own.old.stripe [] command.now turn (record { home = None; other = None }) }
-    ensures tried { IfOk result (IsTriedUnder own.old.stripe own.new.stripe caller.old caller.new command.now turn (record { home = None; other = None }) []
-        []) }
+    requires asked { HasAsked caller.old task.turn.who task.command.now task.turn.moment }
+    requires may { MayTryOn own.old.stripe [] task.command.now task.turn (record { home = None; other = None }) }
+    ensures tried { IfOk result (IsTriedUnder own.old.stripe own.new.stripe caller.old caller.new task.entry.command.now task.entry.turn (record {
+      home =
+          None;
+      other = None;
+    }) [] []) }
     ensures err { OnErr result (own.new.stripe.history ≡ own.old.stripe.history) }
     ensures unnoted { OnErr result (caller.new ≡ caller.old) }
     ensures sees { Grows own.old.sight own.new.sight }
     ensures site { KeepsSite own.old.stripe own.new.stripe }
     ensures full { IsErrOf result HistoryFull → own.new.stripe.limit ≤ length own.new.stripe.history }
 {
+    let store = task.store;
     let place = own.side.events();
-    let tried = attempt_none(&mut own.side.state, command, turn);
+    let tried = attempt_none(&mut own.side.state, task.command, task.turn);
     own.side.state.history();
     put_if(
-        board,
+        &store.board,
         caller,
         &own.side.state,
         &mut own.side.owner,
@@ -68,38 +68,36 @@ pub(crate) fn try_alone<N: Named>(
 // Tries a command once on its stripe and a class whose views are synced, with what the class offers. Shows the class the call.
 #[inline(always)]
 pub(crate) fn try_on_one<N: Named>(
-    alloc: Global,
-    board: &Board,
+    task: Task<'_, N>,
     own: &mut LockedStripe<N>,
     class: &mut LockedClass<N>,
     caller: &mut Caller<N>,
-    command: &Command,
-    turn: Turn,
     given: Given,
 ) -> Result<Tried, Fault>
-    requires board { board.now ≡ N.board }
-    requires asked { HasAsked caller.old turn.who command.now turn.moment }
-    requires may { MayTryOn own.old.stripe (class.old.class ∷ []) command.now turn given }
+    requires asked { HasAsked caller.old task.turn.who task.command.now task.turn.moment }
+    requires may { MayTryOn own.old.stripe (class.old.class ∷ []) task.command.now task.turn given }
     requires room { HasRoomFor given class.old.class }
-    ensures tried { IfOk result (IsTriedUnder own.old.stripe own.new.stripe caller.old caller.new command.now turn given (class.old ∷ []) (class.new ∷ [])) }
+    ensures tried { IfOk result (IsTriedUnder own.old.stripe own.new.stripe caller.old caller.new task.entry.command.now task.entry.turn given (class.old ∷
+        []) (class.new ∷ [])) }
     ensures err { OnErr result (own.new.stripe.history ≡ own.old.stripe.history) }
     ensures unnoted { OnErr result (caller.new ≡ caller.old) }
     ensures sees { Grows own.old.sight own.new.sight }
     ensures site { KeepsSite own.old.stripe own.new.stripe }
     ensures full { IsErrOf result HistoryFull → own.new.stripe.limit ≤ length own.new.stripe.history }
 {
+    let store = task.store;
     let place = own.side.events();
     let tried = attempt_one(
-        alloc,
+        task.alloc,
         &mut own.side.state,
         &mut class.side.state,
-        command,
-        turn,
+        task.command,
+        task.turn,
         given,
     );
     own.side.state.history();
     put_if(
-        board,
+        &store.board,
         caller,
         &own.side.state,
         &mut own.side.owner,
@@ -108,51 +106,48 @@ pub(crate) fn try_on_one<N: Named>(
         is_made(&tried),
     );
     class.side.state.law();
-    catch_up_class(&class.side.state, &mut class.side.owner, board);
-    own.side.hear(board, &mut class.side);
-    class.side.hear(board, &mut own.side);
-    caller.tell_owned(board, &mut class.side);
+    catch_up_class(&class.side.state, &mut class.side.owner, &store.board);
+    own.side.hear(&store.board, &mut class.side);
+    class.side.hear(&store.board, &mut own.side);
+    caller.tell_owned(&store.board, &mut class.side);
     tried
 }
 
 // Tries a command once on its stripe and two classes whose views are synced, with what they offer. Shows the classes the call.
 #[inline(never)]
 pub(crate) fn try_on_two<N: Named>(
-    alloc: Global,
-    board: &Board,
+    task: Task<'_, N>,
     own: &mut LockedStripe<N>,
     home: &mut LockedClass<N>,
     other: &mut LockedClass<N>,
     caller: &mut Caller<N>,
-    command: &Command,
-    turn: Turn,
     given: Given,
 ) -> Result<Tried, Fault>
-    requires board { board.now ≡ N.board }
-    requires asked { HasAsked caller.old turn.who command.now turn.moment }
-    requires may { MayTryOn own.old.stripe (home.old.class ∷ other.old.class ∷ []) command.now turn given }
+    requires asked { HasAsked caller.old task.turn.who task.command.now task.turn.moment }
+    requires may { MayTryOn own.old.stripe (home.old.class ∷ other.old.class ∷ []) task.command.now task.turn given }
     requires room { HasRoomFor given home.old.class × HasRoomFor given other.old.class }
-    ensures tried { IfOk result (IsTriedUnder own.old.stripe own.new.stripe caller.old caller.new command.now turn given (home.old ∷ other.old ∷ [])
-        (home.new ∷ other.new ∷ [])) }
+    ensures tried { IfOk result (IsTriedUnder own.old.stripe own.new.stripe caller.old caller.new task.entry.command.now task.entry.turn given (home.old ∷
+        other.old ∷ []) (home.new ∷ other.new ∷ [])) }
     ensures err { OnErr result (own.new.stripe.history ≡ own.old.stripe.history) }
     ensures unnoted { OnErr result (caller.new ≡ caller.old) }
     ensures sees { Grows own.old.sight own.new.sight }
     ensures site { KeepsSite own.old.stripe own.new.stripe }
     ensures full { IsErrOf result HistoryFull → own.new.stripe.limit ≤ length own.new.stripe.history }
 {
+    let store = task.store;
     let place = own.side.events();
     let tried = attempt_two(
-        alloc,
+        task.alloc,
         &mut own.side.state,
         &mut home.side.state,
         &mut other.side.state,
-        command,
-        turn,
+        task.command,
+        task.turn,
         given,
     );
     own.side.state.history();
     put_if(
-        board,
+        &store.board,
         caller,
         &own.side.state,
         &mut own.side.owner,
@@ -161,14 +156,14 @@ pub(crate) fn try_on_two<N: Named>(
         is_made(&tried),
     );
     home.side.state.law();
-    catch_up_class(&home.side.state, &mut home.side.owner, board);
+    catch_up_class(&home.side.state, &mut home.side.owner, &store.board);
     other.side.state.law();
-    catch_up_class(&other.side.state, &mut other.side.owner, board);
-    own.side.hear(board, &mut home.side);
-    own.side.hear(board, &mut other.side);
-    home.side.hear(board, &mut own.side);
-    other.side.hear(board, &mut own.side);
-    caller.tell_owned(board, &mut home.side);
-    caller.tell_owned(board, &mut other.side);
+    catch_up_class(&other.side.state, &mut other.side.owner, &store.board);
+    own.side.hear(&store.board, &mut home.side);
+    own.side.hear(&store.board, &mut other.side);
+    home.side.hear(&store.board, &mut own.side);
+    other.side.hear(&store.board, &mut own.side);
+    caller.tell_owned(&store.board, &mut home.side);
+    caller.tell_owned(&store.board, &mut other.side);
     tried
 }

@@ -17,4 +17,4 @@ pub use drawing::Drawing;
 pub use links::{is_dead, may_give};
 pub use plain::Plain;
 pub use plain_class::{Checked, PlainClass};
-pub use world::{WHO, World, ask, juggle, one_class, opened, store};
+pub use world::{WHO, World, ask, context, juggle, one_class, opened, store};

@@ -6,7 +6,7 @@ ghost use Rattle.mc_testing.specs.World.{IsWorld};
 use crate::commands::storage;
 use crate::links::may_give;
 use mc_item::{ClassNo, Command, Config, Link, Moves, Numbers, Room, StripeNo, Verb, Who};
-use mc_pull::Lone;
+use mc_pull::{Context, Lone};
 use mc_segment::ClassState;
 use mc_stripe::{Given, Home, Other, StripeState, Turn};
 use std::alloc::Global;
@@ -104,6 +104,19 @@ pub fn store(world: &mut World, letter: u8, exptime: i64, moment: u64) -> Result
     Ok(())
 }
 
+/// Returns what is fixed for the steps of the call at this moment.
+pub fn context(alloc: Global, moment: u64, config: &Config) -> Context<'_>
+    ensures turn { result.turn ≡ record { who = record { caller = 0; turn = 0 }; moment = moment } }
+    ensures config { result.config.now ≡ config.now }
+{
+    let turn = Turn { who: WHO, moment };
+    Context {
+        alloc,
+        turn,
+        config,
+    }
+}
+
 /// Juggles the class, as the LRU maintainer does, through a gate that is lent the stripe.
 pub fn juggle(world: &mut World, moment: u64) -> Result<Moves, Fail> {
     let alloc = world.alloc;
@@ -113,6 +126,6 @@ pub fn juggle(world: &mut World, moment: u64) -> Result<Moves, Fail> {
         stripe: &mut world.stripe,
         answers: &mut answers,
     };
-    let class = &mut world.class;
-    Ok(gate.juggle(alloc, class, WHO, moment, &world.config)?)
+    let context = context(alloc, moment, &world.config);
+    Ok(gate.juggle(context, &mut world.class)?)
 }

@@ -5,7 +5,7 @@ use super::refusing::Refusing;
 use mc_crawl::{Histogram, crawl_lone, crawl_one, kinds_add_up};
 use mc_item::{Fault, Link, StripeNo};
 use mc_pull::Lone;
-use mc_testing::{WHO, World};
+use mc_testing::{World, context};
 use std::alloc::Global;
 use std::test::Fail;
 
@@ -40,10 +40,8 @@ fn crawl_into(
         answers: &mut answers,
     };
     let class = &mut world.class;
-    let config = &world.config;
-    crawl_lone(
-        alloc, class, link, WHO, moment, histogram, config, &mut gate,
-    )?;
+    let context = context(alloc, moment, &world.config);
+    crawl_lone(context, class, link, histogram, &mut gate)?;
     Ok(true)
 }
 
@@ -79,8 +77,8 @@ fn refuse_into(
     }
     let alloc = world.alloc;
     let class = &mut world.class;
-    let config = &world.config;
-    crawl_one(alloc, class, link, WHO, moment, histogram, config, gate)?;
+    let context = context(alloc, moment, &world.config);
+    crawl_one(context, class, link, histogram, gate)?;
     Ok(true)
 }
 

@@ -6,7 +6,7 @@ use super::seeing::{Seen, tell_seen, text_of_class, text_of_stripe};
 use super::trying::{Lend, Pair, opened, tell_command};
 use mc_item::{Command, StripeNo, Verb};
 use mc_pull::{Judge, Lone, settle};
-use mc_testing::{WHO, key, storage};
+use mc_testing::{WHO, context, key, storage};
 use std::alloc::Global;
 use std::process::Abort;
 use std::random::RandomSource;
@@ -119,7 +119,8 @@ fn tell_juggle(pair: &mut Pair) -> Result<String, Fail>
         stripe: &mut pair.stripe,
         answers: &mut answers,
     };
-    let moves = gate.juggle(alloc, &mut pair.first, WHO, pair.moment, &pair.config)?;
+    let context = context(alloc, pair.moment, &pair.config);
+    let moves = gate.juggle(context, &mut pair.first)?;
     Ok(format!(in alloc; "{} moved", moves.moved)?)
 }
 
@@ -142,16 +143,9 @@ fn tell_burial(pair: &mut Pair, number: u64) -> Result<String, Fail>
     let Some(_) = pair.first.entry(number) else {
         return Err(Fail::from("there is no such entry"));
     };
-    let done = settle(
-        alloc,
-        &mut pair.first,
-        &mut pair.stripe,
-        WHO,
-        number,
-        &Judge::Dead,
-        pair.moment,
-        &pair.config,
-    )?;
+    let context = context(alloc, pair.moment, &pair.config);
+    let class = &mut pair.first;
+    let done = settle(context, class, &mut pair.stripe, number, &Judge::Dead)?;
     Ok(format!(in alloc; "{done:?}")?)
 }
 

@@ -3,7 +3,7 @@ use super::judging::may_walk;
 use mc_item::{Fault, Seg, StripeNo};
 use mc_pull::{Answer, Gate, Look, Mode, Pulled, make_room, pull_tail};
 use mc_stripe::StripeState;
-use mc_testing::{WHO, World, juggle};
+use mc_testing::{WHO, World, context, juggle};
 use std::alloc::Global;
 use std::test::Fail;
 
@@ -92,8 +92,8 @@ fn walk(
         yes,
         fails,
     };
-    let config = &world.config;
-    let pulled = pull_tail(alloc, class, seg, mode, WHO, moment, config, &mut gate)?;
+    let context = context(alloc, moment, &world.config);
+    let pulled = pull_tail(context, class, seg, mode, &mut gate)?;
     Ok(Some(pulled))
 }
 
@@ -124,7 +124,8 @@ fn room(
         yes,
         fails,
     };
-    let found = make_room(alloc, class, WHO, moment, &world.config, &mut gate)?;
+    let context = context(alloc, moment, &world.config);
+    let found = make_room(context, class, &mut gate)?;
     Ok((found, answers.len()))
 }
 
@@ -138,7 +139,8 @@ fn juggle_by(world: &mut World, moment: u64, fails: Option<usize>) -> Result<(),
         yes: &[true; 100],
         fails,
     };
-    mc_pull::juggle(alloc, class, WHO, moment, &world.config, &mut gate)?;
+    let context = context(alloc, moment, &world.config);
+    mc_pull::juggle(context, class, &mut gate)?;
     Ok(())
 }
 

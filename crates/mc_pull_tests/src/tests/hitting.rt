@@ -2,7 +2,7 @@
 use super::by_list::ByList;
 use mc_item::Fault;
 use mc_pull::advance;
-use mc_testing::{WHO, World};
+use mc_testing::{World, context};
 use std::test::Fail;
 
 /// A hit: the number of its link, its moment, and what the gate answers.
@@ -20,8 +20,8 @@ fn take(world: &mut World, taken: Taken) -> Result<(bool, usize), Fault> {
         yes: taken.2,
         fails: None,
     };
-    let config = &world.config;
-    let moved = advance(alloc, class, taken.0, WHO, taken.1, config, &mut gate)?;
+    let context = context(alloc, taken.1, &world.config);
+    let moved = advance(context, class, taken.0, &mut gate)?;
     Ok((moved, answers.len()))
 }
 

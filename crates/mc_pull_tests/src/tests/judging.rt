@@ -5,7 +5,7 @@ ghost use Rattle.mc_pull.specs.Question.{IsFullFor, IsSurveyIn, MayWalk};
 use mc_item::{ClassEvent, Command, Fault, Passed, Seg, Verb, Who};
 use mc_pull::{Done, Judge, Mode, settle};
 use mc_segment::{ClassState, Survey};
-use mc_testing::{WHO, World, ask, key, storage};
+use mc_testing::{WHO, World, ask, context, key, storage};
 use std::alloc::Global;
 use std::test::Fail;
 
@@ -76,8 +76,8 @@ pub(super) fn judge(
         passed: Passed::of(&[]),
     };
     let stripe = &mut world.stripe;
-    let config = &world.config;
-    let done = settle(alloc, class, stripe, WHO, number, &judge, moment, config)?;
+    let context = context(alloc, moment, &world.config);
+    let done = settle(context, class, stripe, number, &judge)?;
     Ok(Some((number, done)))
 }
 
@@ -99,17 +99,8 @@ fn ask_tail(world: &mut World, moment: u64) -> Result<Option<Done>, Fault> {
     };
     let number = entry.number;
     let stripe = &mut world.stripe;
-    let config = &world.config;
-    let done = settle(
-        alloc,
-        class,
-        stripe,
-        WHO,
-        number,
-        &Judge::Dead,
-        moment,
-        config,
-    )?;
+    let context = context(alloc, moment, &world.config);
+    let done = settle(context, class, stripe, number, &Judge::Dead)?;
     Ok(Some(done))
 }
 
@@ -122,17 +113,8 @@ fn hit_tail(world: &mut World, moment: u64) -> Result<Option<Done>, Fault> {
     };
     let number = entry.number;
     let stripe = &mut world.stripe;
-    let config = &world.config;
-    let done = settle(
-        alloc,
-        class,
-        stripe,
-        WHO,
-        number,
-        &Judge::Hit,
-        moment,
-        config,
-    )?;
+    let context = context(alloc, moment, &world.config);
+    let done = settle(context, class, stripe, number, &Judge::Hit)?;
     Ok(Some(done))
 }
 

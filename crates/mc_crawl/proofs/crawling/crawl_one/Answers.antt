@@ -6,9 +6,10 @@ use Rattle.mc_crawl.proofs.crawling.crawl_one.Goals as goal
 
 pub returns-clause-reclaims : goal.returns-clause-reclaims
 returns-clause-reclaims g c =
-    subst (λ (h : Histogram). Reclaims c.args.who c.args.moment c.args.class.now.history c.kind_at.new.class.history c.args.histogram.now.reclaimed h.reclaimed) (sym c.count.ensures.value)
-    (crawled_reclaims (crawl c.args.who c.args.link.number c.args.moment c.args.config.now) c.args.class.now c.kind_at.new.class _ _ c.in_ok-kind.kind c.args.histogram.now c.in_ok-kind.ensures.crawled)
+    subst (λ (h : Histogram). Reclaims c.args.context.turn.who c.args.context.turn.moment c.args.class.now.history c.kind_at.new.class.history c.args.histogram.now.reclaimed h.reclaimed) (sym c.count.ensures.value)
+    (crawled_reclaims (crawl c.args.context.turn.who c.args.link.number c.args.context.turn.moment c.args.context.config.now) c.args.class.now c.kind_at.new.class _ _ c.in_ok-kind.kind c.args.histogram.now
+    c.in_ok-kind.ensures.crawled)
 
 pub returns-clause-grows : goal.returns-clause-grows
 returns-clause-grows g c =
-    crawled_grows (crawl c.args.who c.args.link.number c.args.moment c.args.config.now) c.args.class.now c.kind_at.new.class _ _ c.in_ok-kind.kind c.in_ok-kind.ensures.crawled
+    crawled_grows (crawl c.args.context.turn.who c.args.link.number c.args.context.turn.moment c.args.context.config.now) c.args.class.now c.kind_at.new.class _ _ c.in_ok-kind.kind c.in_ok-kind.ensures.crawled

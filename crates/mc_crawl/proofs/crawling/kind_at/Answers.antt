@@ -9,7 +9,7 @@ use Rattle.mc_crawl.proofs.crawling.kind_at.Goals as goal
 
 pub returns-clause-crawled : goal.returns-clause-crawled
 returns-clause-crawled g c =
-    let q = crawl c.args.who c.args.number c.args.moment c.args.config.now in
+    let q = crawl c.args.context.turn.who c.args.number c.args.context.turn.moment c.args.context.config.now in
     let class = c.args.class.now in
     let e = c.in-Some.entry.now in
     let is : entry_of c.args.number (lists_of class.history) ≡ Some e = sym c.entry.ensures ∙ ap option_copied c.in-Some.is in

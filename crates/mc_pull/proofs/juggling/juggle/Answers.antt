@@ -1,6 +1,6 @@
 use Rattle.std.specs.Prelude.{Result, IfErr}
 use Rattle.std.proofs.lemmas.Result.{err_from_is_err_and}
-use Rattle.std.proofs.Common.{List, ◌≡◌, ◌++◌, Bool, false, refl, ap, ◌∙◌, sym, subst, append_assoc, inr, rules}
+use Rattle.std.proofs.Common.{List, ◌++◌, Bool, false, refl, ap, ◌∙◌, sym, subst, append_assoc, inr}
 use Rattle.mc_segment.specs.ClassState.{ClassView}
 use Rattle.mc_rule.specs.Segment.{Rule}
 use Rattle.mc_item.specs.declared.{counts.Moves.Moves, fault.Fault.Fault}
@@ -19,8 +19,8 @@ returns-clause-juggle g c =
     let rest = c.in_ok-sum.ensures.rest in
     let between = juggling mid.history c.in_ok-before.before in
     let end = juggling after.history c.in_ok-sum.sum in
-    let r = rounds old c.args.who c.args.moment c.args.config.now in
-    let rest_is = subst (λ (x : ClassView). JugglesRounds (rounds x c.args.who c.args.moment c.args.config.now) between rest.0 end) c.in_ok-before.ensures.gains.grows.same rest.2 in
+    let r = rounds old c.args.context.turn.who c.args.context.turn.moment c.args.context.config.now in
+    let rest_is = subst (λ (x : ClassView). JugglesRounds (rounds x c.args.context.turn.who c.args.context.turn.moment c.args.context.config.now) between rest.0 end) c.in_ok-before.ensures.gains.grows.same rest.2 in
     let temp_is = subst (λ (b : Bool). JugglesTemp r b old.history temp.0 between) (ap (λ (x : Rule). x.temp) (sym c.requires.config.rule)) temp.2 in (
       temp.0 ++ rest.0,
       rest.1 ∙ (ap (λ (ys : List Answer). ys ++ rest.0) temp.1 ∙ append_assoc _ temp.0 rest.0),
@@ -52,8 +52,9 @@ returns-in_err-sum-clause-err g c =
     let temp = c.in_ok-before.ensures.temp in
     let rest = c.in_err-sum.ensures.err in
     let between = juggling mid.history c.in_ok-before.before in
-    let r = rounds old c.args.who c.args.moment c.args.config.now in
-    let rest_is = subst (λ (x : ClassView). BreaksRounds (rounds x c.args.who c.args.moment c.args.config.now) Faults fault between rest.0 after.history) c.in_ok-before.ensures.gains.grows.same rest.2 in
+    let r = rounds old c.args.context.turn.who c.args.context.turn.moment c.args.context.config.now in
+    let rest_is = subst (λ (x : ClassView). BreaksRounds (rounds x c.args.context.turn.who c.args.context.turn.moment c.args.context.config.now) Faults fault between rest.0 after.history)
+    c.in_ok-before.ensures.gains.grows.same rest.2 in
     let temp_is = subst (λ (b : Bool). JugglesTemp r b old.history temp.0 between) (ap (λ (x : Rule). x.temp) (sym c.requires.config.rule)) temp.2 in
     let both =
     broken_after (JugglesTemp r r.class.rule.temp) (BreaksRounds r Faults fault)

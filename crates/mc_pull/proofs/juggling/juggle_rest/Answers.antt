@@ -13,22 +13,23 @@ use Rattle.mc_pull.proofs.juggling.juggle_rest.Goals as goal
 
 pub returns-clause-rest : goal.returns-clause-rest
 returns-clause-rest g c =
-    let config = c.args.config.now in
+    let config = c.args.context.config.now in
     let after = c.juggle_rounds.new.class in
     let survey = c.in_ok-survey.ensures in
     let old = c.args.class.now in
-    let r = rounds old c.args.who c.args.moment config in
+    let r = rounds old c.args.context.turn.who c.args.context.turn.moment config in
     let P : ClassView → Survey → List ClassEvent → Type 0 =
     λ x s h. IfOk c.juggle_rounds.result (λ sum. (xs : List Answer) × (g.G.Gate.answers c.juggle_rounds.new.gate ≡ g.G.Gate.answers c.args.gate.now ++ xs)
-    × IsJuggled (IsJuggleRound (rounds x c.args.who c.args.moment config) s) (juggling h c.args.total) xs (juggling after.history sum)) in
+    × IsJuggled (IsJuggleRound (rounds x c.args.context.turn.who c.args.context.turn.moment config) s) (juggling h c.args.total) xs (juggling after.history sum)) in
     let made = subst (λ (x : ClassView). P x c.in_ok-survey.survey c.survey_class.new.class.history) survey.gains.grows.same c.juggle_rounds.ensures.juggled in
     let named = subst (λ (s : Survey). P old s c.survey_class.new.class.history) (survey.survey config) made in
     subst (λ (h : List ClassEvent). P old (survey_at r old.history) h) (survey.history config) named
 
 pub returns-clause-kept : goal.returns-clause-kept
 returns-clause-kept g c = λ first begun k.
-    kept_later g.G.Gate.keeps c.args.who c.args.moment c.args.class.now c.survey_class.new.class c.in_ok-survey.ensures.gains.grows _ _ _ _ c.juggle_rounds.ensures.kept first begun
-    (subst (λ (h : List ClassEvent). g.G.Gate.keeps (walker_of c.args.class.now c.args.who c.args.moment) first begun c.args.gate.now h) (sym (c.in_ok-survey.ensures.history c.args.config.now))
+    kept_later g.G.Gate.keeps c.args.context.turn.who c.args.context.turn.moment c.args.class.now c.survey_class.new.class c.in_ok-survey.ensures.gains.grows _ _ _ _ c.juggle_rounds.ensures.kept first begun
+    (subst (λ (h : List ClassEvent). g.G.Gate.keeps (walker_of c.args.class.now c.args.context.turn.who c.args.context.turn.moment) first begun c.args.gate.now h)
+    (sym (c.in_ok-survey.ensures.history c.args.context.config.now))
     (c.requires.surveys first begun c.args.gate.now c.args.class.now.history _ refl refl k))
 
 pub returns-clause-gains : goal.returns-clause-gains
@@ -36,15 +37,16 @@ returns-clause-gains g c = gains_both false c.args.class.now c.survey_class.new.
 
 pub returns-clause-err : goal.returns-clause-err
 returns-clause-err g c =
-    let config = c.args.config.now in
+    let config = c.args.context.config.now in
     let after = c.juggle_rounds.new.class in
     let survey = c.in_ok-survey.ensures in
     let old = c.args.class.now in
-    let r = rounds old c.args.who c.args.moment config in
+    let r = rounds old c.args.context.turn.who c.args.context.turn.moment config in
     let given = g.G.Gate.answers c.args.gate.now in
     let later = g.G.Gate.answers c.juggle_rounds.new.gate in
     let Broken : ClassView → Survey → List ClassEvent → List Answer → Type 0 =
-    λ x s h xs. BreaksJuggled (IsJuggleRound (rounds x c.args.who c.args.moment config) s) (BreaksRound (rounds x c.args.who c.args.moment config) s) (juggling h c.args.total) xs after.history in
+    λ x s h xs. BreaksJuggled (IsJuggleRound (rounds x c.args.context.turn.who c.args.context.turn.moment config) s) (BreaksRound (rounds x c.args.context.turn.who c.args.context.turn.moment config) s)
+    (juggling h c.args.total) xs after.history in
     let P : ClassView → Survey → List ClassEvent → Type 0 = λ x s h. OnErr c.juggle_rounds.result (Since given later (Broken x s h)) in
     let made = subst (λ (x : ClassView). P x c.in_ok-survey.survey c.survey_class.new.class.history) survey.gains.grows.same c.juggle_rounds.ensures.err in
     let named = subst (λ (s : Survey). P old s c.survey_class.new.class.history) (survey.survey config) made in

@@ -9,9 +9,9 @@ use Rattle.mc_pull.proofs.juggling.juggle_round.Goals as goal
 
 pub returns-clause-round : goal.returns-clause-round
 returns-clause-round g c =
-    let who = c.args.who in
-    let moment = c.args.moment in
-    let config = c.args.config.now in
+    let who = c.args.context.turn.who in
+    let moment = c.args.context.turn.moment in
+    let config = c.args.context.config.now in
     let survey = c.args.survey in
     let mid = c.pull_tail.new.class in
     let next = c.pull_warm.new.class in
@@ -48,7 +48,7 @@ returns-in_err-warm-clause-gains g c = gains_both false c.args.class.now c.pull_
 
 pub pull_tail-requires-2-clause-walk : goal.pull_tail-requires-2-clause-walk
 pull_tail-requires-2-clause-walk g c =
-    survey_later c.args.class.now c.pull_warm.new.class c.args.who c.args.moment c.args.survey
+    survey_later c.args.class.now c.pull_warm.new.class c.args.context.turn.who c.args.context.turn.moment c.args.survey
     (gains_both false c.args.class.now c.pull_tail.new.class c.pull_warm.new.class c.in_ok-hot.ensures.gains c.in_ok-warm.ensures.gains).grows c.requires.survey
 
 pub returns-in_err-cold-clause-gains : goal.returns-in_err-cold-clause-gains
@@ -66,17 +66,18 @@ returns-in_err-hot-clause-err g c =
     let hot = c.in_err-hot.ensures.err in
     let after = c.pull_tail.new.class in
     err_since _ (g.G.Gate.answers c.args.gate.now) (g.G.Gate.answers c.pull_tail.new.gate)
-    (λ xs. BreaksRound (rounds c.args.class.now c.args.who c.args.moment c.args.config.now) c.args.survey c.args.class.now.history xs after.history) (hot.0, hot.1, inl hot.2)
+    (λ xs. BreaksRound (rounds c.args.class.now c.args.context.turn.who c.args.context.turn.moment c.args.context.config.now) c.args.survey c.args.class.now.history xs after.history) (hot.0, hot.1, inl hot.2)
 
 pub returns-in_err-warm-clause-err : goal.returns-in_err-warm-clause-err
 returns-in_err-warm-clause-err g c =
     let survey = c.args.survey in
-    let r = rounds c.args.class.now c.args.who c.args.moment c.args.config.now in
+    let r = rounds c.args.class.now c.args.context.turn.who c.args.context.turn.moment c.args.context.config.now in
     let mid = c.pull_tail.new.class in
     let after = c.pull_warm.new.class in
     let hot = c.in_ok-hot.ensures.walk in
     let warm = c.in_err-warm.ensures.err in
-    let warm_is = subst (λ (x : ClassView). BreaksWalk (rounds x c.args.who c.args.moment c.args.config.now) Warm (Plain survey) mid.history warm.0 after.history) c.in_ok-hot.ensures.gains.grows.same warm.3 in
+    let warm_is = subst (λ (x : ClassView). BreaksWalk (rounds x c.args.context.turn.who c.args.context.turn.moment c.args.context.config.now) Warm (Plain survey) mid.history warm.0 after.history)
+    c.in_ok-hot.ensures.gains.grows.same warm.3 in
     let both =
     broken_after (WalksInVain r Hot (Plain survey)) (BreaksWalk r Warm (Plain survey))
     (g.G.Gate.answers c.args.gate.now) (g.G.Gate.answers c.pull_tail.new.gate) (g.G.Gate.answers c.pull_warm.new.gate) c.args.class.now.history mid.history after.history
@@ -85,9 +86,9 @@ returns-in_err-warm-clause-err g c =
 
 pub returns-in_err-cold-clause-err : goal.returns-in_err-cold-clause-err
 returns-in_err-cold-clause-err g c =
-    let who = c.args.who in
-    let moment = c.args.moment in
-    let config = c.args.config.now in
+    let who = c.args.context.turn.who in
+    let moment = c.args.context.turn.moment in
+    let config = c.args.context.config.now in
     let survey = c.args.survey in
     let r = rounds c.args.class.now who moment config in
     let mid = c.pull_tail.new.class in

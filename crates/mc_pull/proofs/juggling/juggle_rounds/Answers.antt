@@ -14,7 +14,8 @@ rounds-preserved g c =
     let after = c.juggle_round.new.class in
     let few = inv.1 in
     let some = c.rounds-test.true in
-    let round = subst (λ (x : ClassView). IsJuggleRound (rounds x c.args.who c.args.moment c.args.config.now) c.args.survey before.history made.round.0 after.history c.in_ok-made.made) inv.3.grows.same made.round.2 in
+    let round = subst (λ (x : ClassView). IsJuggleRound (rounds x c.args.context.turn.who c.args.context.turn.moment c.args.context.config.now) c.args.survey before.history made.round.0 after.history c.in_ok-made.made)
+    inv.3.grows.same made.round.2 in
     let count : 500 - (c.rounds.left - 1) ≡ suc (500 - c.rounds.left) = omega (arith, few, some) in
     let total : sum_of c.plus-sum.result ≡ sum_of (plus c.rounds.sum c.in_ok-made.made) = ap sum_of c.plus-sum.ensures in (
       rounds_more made.round.0 inv.0 made.round.1
@@ -22,11 +23,11 @@ rounds-preserved g c =
       omega (arith, few),
       omega (arith, inv.2, made.few, some, plus_sum c.rounds.sum c.in_ok-made.made, total),
       gains_both false _ before after inv.3 made.gains,
-      survey_later before after c.args.who c.args.moment c.args.survey made.gains.grows inv.4,
-      class_later c.args.config.now before after inv.5 made.gains.grows,
+      survey_later before after c.args.context.turn.who c.args.context.turn.moment c.args.survey made.gains.grows inv.4,
+      class_later c.args.context.config.now before after inv.5 made.gains.grows,
       made.serves,
       made.holds ∙ inv.7,
-      λ h v k. kept_later g.G.Gate.keeps c.args.who c.args.moment c.args.class.now before inv.3.grows _ _ _ _ made.kept h v (inv.8 h v k),
+      λ h v k. kept_later g.G.Gate.keeps c.args.context.turn.who c.args.context.turn.moment c.args.class.now before inv.3.grows _ _ _ _ made.kept h v (inv.8 h v k),
     )
 
 pub returns-after-rounds-clause-juggled : goal.returns-after-rounds-clause-juggled
@@ -57,13 +58,13 @@ pub returns-in_err-made-clause-err : goal.returns-in_err-made-clause-err
 returns-in_err-made-clause-err g c =
     let inv = c.rounds.invariant in
     let made = c.in_err-made.ensures.err in
-    let r = rounds c.args.class.now c.args.who c.args.moment c.args.config.now in
+    let r = rounds c.args.class.now c.args.context.turn.who c.args.context.turn.moment c.args.context.config.now in
     let survey = c.args.survey in
     let before = c.rounds.class in
     let after = c.juggle_round.new.class in
     let few = inv.1 in
     let some = c.rounds-test.true in
-    let broken = subst (λ (x : ClassView). BreaksRound (rounds x c.args.who c.args.moment c.args.config.now) survey before.history made.0 after.history) inv.3.grows.same made.2 in
+    let broken = subst (λ (x : ClassView). BreaksRound (rounds x c.args.context.turn.who c.args.context.turn.moment c.args.context.config.now) survey before.history made.0 after.history) inv.3.grows.same made.2 in
     err_since _ (g.G.Gate.answers c.args.gate.now) (g.G.Gate.answers c.juggle_round.new.gate)
     (λ xs. BreaksJuggled (IsJuggleRound r survey) (BreaksRound r survey) (juggling c.args.class.now.history c.args.total) xs after.history)
     (steps_broken (λ (a : Juggling). BreaksRound r survey a.history) 500 _ after.history inv.0 (omega (arith, few, some)) (made.0, made.1, broken))

@@ -7,13 +7,13 @@ use Rattle.mc_pull.proofs.juggling.juggle_rounds.Given as goal
 
 abbrev pub invariant-rounds : goal.invariant-rounds
 invariant-rounds g l =
-    OnRounds (Adds (IsJuggleRound (rounds l.fn.class l.who l.moment l.config) l.survey) true) (g.G.Gate.answers l.fn.gate) (g.G.Gate.answers l.gate)
+    OnRounds (Adds (IsJuggleRound (rounds l.fn.class l.context.turn.who l.context.turn.moment l.context.config.now) l.survey) true) (g.G.Gate.answers l.fn.gate) (g.G.Gate.answers l.gate)
     (juggling l.fn.class.history l.fn.total) (juggling l.class.history l.sum) (500 - l.left)
     × (l.left ≤ 500) × (sum_of l.sum + 15 * l.left ≤ 10000) × GainsFor false l.fn.class l.class
-    × IsSurveyIn l.class.history l.who l.moment l.survey × IsClassOf l.config l.class × g.G.Gate.serves l.gate l.config l.class
+    × IsSurveyIn l.class.history l.context.turn.who l.context.turn.moment l.survey × IsClassOf l.context.config.now l.class × g.G.Gate.serves l.gate l.context.config.now l.class
     × (g.G.Gate.references l.gate ≡ g.G.Gate.references l.fn.gate)
-    × ((first : g.row.G.Denot) (begun : List ClassEvent) → g.G.Gate.keeps (walker_of l.fn.class l.who l.moment) first begun l.fn.gate l.fn.class.history
-    → g.G.Gate.keeps (walker_of l.fn.class l.who l.moment) first begun l.gate l.class.history)
+    × ((first : g.row.G.Denot) (begun : List ClassEvent) → g.G.Gate.keeps (walker_of l.fn.class l.context.turn.who l.context.turn.moment) first begun l.fn.gate l.fn.class.history
+    → g.G.Gate.keeps (walker_of l.fn.class l.context.turn.who l.context.turn.moment) first begun l.gate l.class.history)
 
 abbrev pub decreases-rounds : goal.decreases-rounds
 decreases-rounds g l = l.left

@@ -14,52 +14,54 @@ use Rattle.mc_pull.proofs.juggling.juggle_temp.Goals as goal
 
 pub returns-clause-temp : goal.returns-clause-temp
 returns-clause-temp g c =
-    let config = c.args.config.now in
+    let config = c.args.context.config.now in
     let after = c.temp_rounds.new.class in
     let survey = c.in_ok-survey.ensures in
     let old = c.args.class.now in
-    let r = rounds old c.args.who c.args.moment config in
+    let r = rounds old c.args.context.turn.who c.args.context.turn.moment config in
     let P : ClassView → Survey → List ClassEvent → Type 0 =
     λ x s h. IfOk c.temp_rounds.result (λ sum. (xs : List Answer) × (g.G.Gate.answers c.temp_rounds.new.gate ≡ g.G.Gate.answers c.args.gate.now ++ xs)
-    × IsJuggled (Walks (rounds x c.args.who c.args.moment config) Temp (Plain s)) (juggling h none_pulled) xs (juggling after.history sum)) in
+    × IsJuggled (Walks (rounds x c.args.context.turn.who c.args.context.turn.moment config) Temp (Plain s)) (juggling h none_pulled) xs (juggling after.history sum)) in
     let made = subst (λ (x : ClassView). P x c.in_ok-survey.survey c.survey_class.new.class.history) survey.gains.grows.same c.temp_rounds.ensures.juggled in
     let named = subst (λ (s : Survey). P old s c.survey_class.new.class.history) (survey.survey config) made in
     let noted = subst (λ (h : List ClassEvent). P old (survey_at r old.history) h) (survey.history config) named in
     subst (λ (b : Bool). IfOk c.temp_rounds.result (λ sum. (xs : List Answer) × (g.G.Gate.answers c.temp_rounds.new.gate ≡ g.G.Gate.answers c.args.gate.now ++ xs)
-    × JugglesTemp r b old.history xs (juggling after.history sum))) (sym c.if-not-config.false) noted
+    × JugglesTemp r b old.history xs (juggling after.history sum))) (sym c.if-not-context.false) noted
 
 pub returns-clause-kept : goal.returns-clause-kept
 returns-clause-kept g c = λ first begun k.
-    kept_later g.G.Gate.keeps c.args.who c.args.moment c.args.class.now c.survey_class.new.class c.in_ok-survey.ensures.gains.grows _ _ _ _ c.temp_rounds.ensures.kept first begun
-    (subst (λ (h : List ClassEvent). g.G.Gate.keeps (walker_of c.args.class.now c.args.who c.args.moment) first begun c.args.gate.now h) (sym (c.in_ok-survey.ensures.history c.args.config.now))
+    kept_later g.G.Gate.keeps c.args.context.turn.who c.args.context.turn.moment c.args.class.now c.survey_class.new.class c.in_ok-survey.ensures.gains.grows _ _ _ _ c.temp_rounds.ensures.kept first begun
+    (subst (λ (h : List ClassEvent). g.G.Gate.keeps (walker_of c.args.class.now c.args.context.turn.who c.args.context.turn.moment) first begun c.args.gate.now h)
+    (sym (c.in_ok-survey.ensures.history c.args.context.config.now))
     (c.requires.surveys first begun c.args.gate.now c.args.class.now.history _ refl refl k))
 
-pub returns-then-not-config-clause-gains : goal.returns-then-not-config-clause-gains
-returns-then-not-config-clause-gains g c = gains_itself false c.args.class.now
+pub returns-then-not-context-clause-gains : goal.returns-then-not-context-clause-gains
+returns-then-not-context-clause-gains g c = gains_itself false c.args.class.now
 
 pub returns-clause-gains : goal.returns-clause-gains
 returns-clause-gains g c = gains_both false c.args.class.now c.survey_class.new.class c.temp_rounds.new.class c.in_ok-survey.ensures.gains c.temp_rounds.ensures.gains
 
 pub returns-in_err-survey-clause-err : goal.returns-in_err-survey-clause-err
 returns-in_err-survey-clause-err g c =
-    let r = rounds c.args.class.now c.args.who c.args.moment c.args.config.now in
+    let r = rounds c.args.class.now c.args.context.turn.who c.args.context.turn.moment c.args.context.config.now in
     let given = g.G.Gate.answers c.args.gate.now in
     let P : Bool → Type 0 =
     λ b. IfErr c.from_residual.result (λ fault. Since given given (λ xs. BreaksTemp r (g.G.Gate.faults c.args.gate.now c.survey_class.new.class) fault b c.args.class.now.history xs c.survey_class.new.class.history)) in
     let refused : P true = search rules in
-    subst P (sym c.if-not-config.false) refused
+    subst P (sym c.if-not-context.false) refused
 
 pub returns-clause-err : goal.returns-clause-err
 returns-clause-err g c =
-    let config = c.args.config.now in
+    let config = c.args.context.config.now in
     let after = c.temp_rounds.new.class in
     let survey = c.in_ok-survey.ensures in
     let old = c.args.class.now in
-    let r = rounds old c.args.who c.args.moment config in
+    let r = rounds old c.args.context.turn.who c.args.context.turn.moment config in
     let given = g.G.Gate.answers c.args.gate.now in
     let later = g.G.Gate.answers c.temp_rounds.new.gate in
     let Broken : ClassView → Survey → List ClassEvent → List Answer → Type 0 =
-    λ x s h xs. BreaksJuggled (Walks (rounds x c.args.who c.args.moment config) Temp (Plain s)) (BreaksWalk (rounds x c.args.who c.args.moment config) Temp (Plain s)) (juggling h none_pulled) xs after.history in
+    λ x s h xs. BreaksJuggled (Walks (rounds x c.args.context.turn.who c.args.context.turn.moment config) Temp (Plain s)) (BreaksWalk (rounds x c.args.context.turn.who c.args.context.turn.moment config) Temp (Plain s))
+    (juggling h none_pulled) xs after.history in
     let P : ClassView → Survey → List ClassEvent → Type 0 = λ x s h. OnErr c.temp_rounds.result (Since given later (Broken x s h)) in
     let made = subst (λ (x : ClassView). P x c.in_ok-survey.survey c.survey_class.new.class.history) survey.gains.grows.same c.temp_rounds.ensures.err in
     let named = subst (λ (s : Survey). P old s c.survey_class.new.class.history) (survey.survey config) made in
@@ -69,4 +71,4 @@ returns-clause-err g c =
     let both = err_both c.temp_rounds.result Faults left c.temp_rounds.ensures.fault noted in
     let Q : Bool → Fault → Type 0 = λ b fault. Since given later (λ xs. BreaksTemp r Faults fault b old.history xs after.history) in
     let weaker = IfErr-weaker c.temp_rounds.result (λ (fault : Fault). Faults fault × left fault) (Q true) (λ fault it. (it.1.0, it.1.1, inr (it.0, it.1.2))) both in
-    subst (λ (b : Bool). IfErr c.temp_rounds.result (Q b)) (sym c.if-not-config.false) weaker
+    subst (λ (b : Bool). IfErr c.temp_rounds.result (Q b)) (sym c.if-not-context.false) weaker

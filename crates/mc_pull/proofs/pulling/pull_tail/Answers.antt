@@ -7,22 +7,22 @@ use Rattle.mc_pull.proofs.pulling.pull_tail.Goals as goal
 pub looks-preserved : goal.looks-preserved
 looks-preserved g c =
     let inv = c.looks.invariant in
-    let look = c.in_ok-answer.ensures.answer in
-    let made = c.in_ok-answer.ensures.class in
+    let look = c.in_ok-answer.ensures.answer c.looks.left c.looks-test.true in
+    let made = c.in_ok-answer.ensures.class c.looks.left in
     let grows = c.in_ok-answer.ensures.grows in (
       looked_on c.in_ok-answer.answer inv.0 look.0 look.1 made grows.same c.counted-pulled.ensures c.looks-test.true (sym c.ends_with.ensures ∙ c.if-ends_with.false),
-      may_later c.looks.class c.look_next.new.class c.args.seg c.args.mode c.args.who c.args.moment grows inv.1,
+      may_later c.looks.class c.look_next.new.class c.args.seg c.args.mode c.args.context.turn.who c.args.context.turn.moment grows inv.1,
       class_later _ _ _ inv.2 grows,
       c.in_ok-answer.ensures.serves,
       c.in_ok-answer.ensures.holds ∙ inv.4,
-      λ h v k. kept_later g.G.Gate.keeps c.args.who c.args.moment c.args.class.now c.looks.class inv.0.gains.grows _ _ _ _ c.in_ok-answer.ensures.kept h v (inv.5 h v k),
+      λ h v k. kept_later g.G.Gate.keeps c.args.context.turn.who c.args.context.turn.moment c.args.class.now c.looks.class inv.0.gains.grows _ _ _ _ c.in_ok-answer.ensures.kept h v (inv.5 h v k),
     )
 
 pub returns-then-ends_with-clause-walk : goal.returns-then-ends_with-clause-walk
 returns-then-ends_with-clause-walk g c =
     let inv = c.looks.invariant in
-    let look = c.in_ok-answer.ensures.answer in
-    let made = c.in_ok-answer.ensures.class in
+    let look = c.in_ok-answer.ensures.answer c.looks.left c.looks-test.true in
+    let made = c.in_ok-answer.ensures.class c.looks.left in
     looked_whole c.in_ok-answer.answer inv.0 look.0 look.1 made c.in_ok-answer.ensures.grows.same c.counted-pulled.ensures (sym c.ends_with.ensures ∙ c.if-ends_with.true)
 
 pub look_next-requires-clause-there : goal.look_next-requires-clause-there
@@ -47,6 +47,6 @@ returns-in_err-answer-clause-gains g c =
 pub returns-then-ends_with-clause-gains : goal.returns-then-ends_with-clause-gains
 returns-then-ends_with-clause-gains g c =
     let inv = c.looks.invariant in
-    let look = c.in_ok-answer.ensures.answer in
+    let look = c.in_ok-answer.ensures.answer c.looks.left c.looks-test.true in
     gains_both (looks_for_chunk c.args.mode) c.args.class.now c.looks.class c.look_next.new.class inv.0.gains
-    (looked_more c.in_ok-answer.answer inv.0 look.0 look.1 c.in_ok-answer.ensures.class c.in_ok-answer.ensures.grows.same c.counted-pulled.ensures)
+    (looked_more c.in_ok-answer.answer inv.0 look.0 look.1 (c.in_ok-answer.ensures.class c.looks.left) c.in_ok-answer.ensures.grows.same c.counted-pulled.ensures)

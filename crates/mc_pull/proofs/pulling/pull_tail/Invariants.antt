@@ -6,11 +6,11 @@ use Rattle.mc_pull.proofs.pulling.pull_tail.Given as goal
 
 abbrev pub invariant-looks : goal.invariant-looks
 invariant-looks g l =
-    OnLooks l.fn.class l.class (g.G.Gate.answers l.fn.gate) (g.G.Gate.answers l.gate) l.seg l.mode l.who l.moment l.config l.left l.pulled
-    × MayWalk l.class l.seg l.mode l.who l.moment × IsClassOf l.config l.class × g.G.Gate.serves l.gate l.config l.class
+    OnLooks l.fn.class l.class (g.G.Gate.answers l.fn.gate) (g.G.Gate.answers l.gate) l.seg l.mode l.context.turn.who l.context.turn.moment l.context.config.now l.left l.pulled
+    × MayWalk l.class l.seg l.mode l.context.turn.who l.context.turn.moment × IsClassOf l.context.config.now l.class × g.G.Gate.serves l.gate l.context.config.now l.class
     × (g.G.Gate.references l.gate ≡ g.G.Gate.references l.fn.gate)
-    × ((first : g.row.G.Denot) (begun : List ClassEvent) → g.G.Gate.keeps (walker_of l.fn.class l.who l.moment) first begun l.fn.gate l.fn.class.history
-    → g.G.Gate.keeps (walker_of l.fn.class l.who l.moment) first begun l.gate l.class.history)
+    × ((first : g.row.G.Denot) (begun : List ClassEvent) → g.G.Gate.keeps (walker_of l.fn.class l.context.turn.who l.context.turn.moment) first begun l.fn.gate l.fn.class.history
+    → g.G.Gate.keeps (walker_of l.fn.class l.context.turn.who l.context.turn.moment) first begun l.gate l.class.history)
 
 abbrev pub decreases-looks : goal.decreases-looks
 decreases-looks g l = l.left

@@ -12,15 +12,15 @@ rounds-preserved g c =
     let after = c.room_round.new.class in
     let few = inv.1 in
     let some = c.rounds-test.true in
-    let round = subst (λ (x : ClassView). IsRoomRound (rounds x c.args.who c.args.moment c.args.config.now) before.history made.round.0 after.history) inv.2.same made.round.2 in
+    let round = subst (λ (x : ClassView). IsRoomRound (rounds x c.args.context.turn.who c.args.context.turn.moment c.args.context.config.now) before.history made.round.0 after.history) inv.2.same made.round.2 in
     let count : 10 - (c.rounds.left - 1) ≡ suc (10 - c.rounds.left) = omega (arith, few, some) in (
       rounds_more made.round.0 inv.0 made.round.1 round count,
       omega (arith, few),
       grows_both _ before after inv.2 made.grows,
-      class_later c.args.config.now before after inv.3 made.grows,
+      class_later c.args.context.config.now before after inv.3 made.grows,
       made.serves,
       made.holds ∙ inv.5,
-      λ h v k. kept_later g.G.Gate.keeps c.args.who c.args.moment c.args.class.now before inv.2 _ _ _ _ made.kept h v (inv.6 h v k),
+      λ h v k. kept_later g.G.Gate.keeps c.args.context.turn.who c.args.context.turn.moment c.args.class.now before inv.2 _ _ _ _ made.kept h v (inv.6 h v k),
     )
 
 pub returns-in_err-room_round-clause-err : goal.returns-in_err-room_round-clause-err
@@ -31,7 +31,7 @@ returns-in_err-room_round-clause-err g c =
     let after = c.room_round.new.class in
     let few = inv.1 in
     let some = c.rounds-test.true in
-    let broken = subst (λ (x : ClassView). BreaksRoomRound (rounds x c.args.who c.args.moment c.args.config.now) before.history made.0 after.history) inv.2.same made.2 in
-    let r = rounds c.args.class.now c.args.who c.args.moment c.args.config.now in
+    let broken = subst (λ (x : ClassView). BreaksRoomRound (rounds x c.args.context.turn.who c.args.context.turn.moment c.args.context.config.now) before.history made.0 after.history) inv.2.same made.2 in
+    let r = rounds c.args.class.now c.args.context.turn.who c.args.context.turn.moment c.args.context.config.now in
     err_since _ (g.G.Gate.answers c.args.gate.now) (g.G.Gate.answers c.room_round.new.gate) (λ xs. BreaksRoom r c.args.class.now.history xs after.history)
     (steps_broken (BreaksRoomRound r) 10 _ after.history inv.0 (omega (arith, few, some)) (made.0, made.1, broken))

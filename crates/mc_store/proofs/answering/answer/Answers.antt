@@ -7,7 +7,7 @@ use Rattle.mc_store.proofs.answering.answer.Goals as goal
 
 pub try_alone-requires-clause-may : goal.try_alone-requires-clause-may
 try_alone-requires-clause-may g c = record {
-  stripe = ap (λ (n : ℕ). stripe_of (key_of c.args.command.now) n) c.law.ensures.made_with.stripes ∙ c.requires.called.own;
+  stripe = ap (λ (n : ℕ). stripe_of (key_of c.args.task.command.now) n) c.law.ensures.made_with.stripes ∙ c.requires.called.own;
   moment = c.requires.called.early;
   distinct = tt;
   met = tt;
@@ -18,8 +18,8 @@ try_alone-requires-clause-may g c = record {
 pub returns-in-Made : goal.returns-in-Made
 returns-in-Made g c =
     let config = g.N.Named.config in
-    let command = c.args.command.now in
-    let turn = c.args.turn in
+    let command = c.args.task.command.now in
+    let turn = c.args.task.turn in
     let s = c.args.own.now.stripe in
     let tried = rw c.in-Made.is at c.in_ok-reply.ensures.tried in
     ends_made config command turn s s tried.uses.alive (searched_itself config turn.who command turn.moment s s refl) (site_itself s) c.try_alone.new.own c.args.caller.now c.try_alone.new.caller
@@ -30,8 +30,8 @@ returns-in-Made g c =
 pub returns-in-Wants : goal.returns-in-Wants
 returns-in-Wants g c =
     let config = g.N.Named.config in
-    let command = c.args.command.now in
-    let turn = c.args.turn in
+    let command = c.args.task.command.now in
+    let turn = c.args.task.turn in
     let mid = c.try_alone.new.own.stripe in
     let tried = rw c.in-Wants.is at c.in_ok-reply.ensures.tried in
     let want = c.answer_want in

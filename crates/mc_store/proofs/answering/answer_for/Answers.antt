@@ -7,8 +7,8 @@ use Rattle.mc_store.proofs.answering.answer_for.Goals as goal
 pub returns-in-Made : goal.returns-in-Made
 returns-in-Made g c =
     let config = g.N.Named.config in
-    let command = c.args.command.now in
-    let turn = c.args.turn in
+    let command = c.args.task.command.now in
+    let turn = c.args.task.turn in
     let s = c.args.own.now.stripe in
     let made = rw c.in-Made.is at c.in_ok-reply.ensures.tried in
     ends_made config command turn s s made.alive (searched_itself config turn.who command turn.moment s s refl) (site_itself s) c.try_home.new.own
@@ -16,8 +16,8 @@ returns-in-Made g c =
 
 pub answer_at_home-requires-clause-begun : goal.answer_at_home-requires-clause-begun
 answer_at_home-requires-clause-begun g c =
-    let command = c.args.command.now in
-    let turn = c.args.turn in
+    let command = c.args.task.command.now in
+    let turn = c.args.task.turn in
     let tried = rw c.in-Wants.is at c.in_ok-reply.ensures.tried in
     let asked = subst (λ (x : CallerView). HasAsked x turn.who command turn.moment) (sym tried.1) c.requires.called.asked in
     c.tell_stripe.ensures.begun turn.who turn.moment (asked_for command turn.moment) (asked_called c.try_home.new.caller turn.who command turn.moment asked)
@@ -25,8 +25,8 @@ answer_at_home-requires-clause-begun g c =
 pub returns-in-Room : goal.returns-in-Room
 returns-in-Room g c =
     let config = g.N.Named.config in
-    let command = c.args.command.now in
-    let turn = c.args.turn in
+    let command = c.args.task.command.now in
+    let turn = c.args.task.turn in
     let mid = c.try_home.new.own.stripe in
     let tried = rw c.in-Wants.is at c.in_ok-reply.ensures.tried in
     let at = c.answer_at_home in
@@ -37,8 +37,8 @@ returns-in-Room g c =
 pub returns : goal.returns
 returns g c =
     let config = g.N.Named.config in
-    let command = c.args.command.now in
-    let turn = c.args.turn in
+    let command = c.args.task.command.now in
+    let turn = c.args.task.turn in
     let mid = c.try_home.new.own.stripe in
     let tried = rw c.in-Wants.is at c.in_ok-reply.ensures.tried in
     let want = c.answer_want in

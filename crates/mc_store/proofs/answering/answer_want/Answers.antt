@@ -11,19 +11,19 @@ use Rattle.mc_store.proofs.answering.answer_want.Goals as goal
 
 pub answer_with-requires-clause-begun : goal.answer_with-requires-clause-begun
 answer_with-requires-clause-begun g c =
-    let command = c.args.command.now in
-    let turn = c.args.turn in
+    let command = c.args.task.command.now in
+    let turn = c.args.task.turn in
     c.tell_stripe.ensures.begun turn.who turn.moment (asked_for command turn.moment) (asked_called c.args.caller.now turn.who command turn.moment c.requires.called.asked)
 
 pub bury-requires-clause-begun : goal.bury-requires-clause-begun
 bury-requires-clause-begun g c =
-    let command = c.args.command.now in
-    let turn = c.args.turn in
+    let command = c.args.task.command.now in
+    let turn = c.args.task.turn in
     record { command = command; begun = c.tell_stripe.ensures.begun turn.who turn.moment (asked_for command turn.moment) (asked_called c.args.caller.now turn.who command turn.moment c.requires.called.asked) }
 
 pub try_alone-requires-clause-may : goal.try_alone-requires-clause-may
 try_alone-requires-clause-may g c =
-    let key = key_of c.args.command.now in
+    let key = key_of c.args.task.command.now in
     let site : c.bury.new.own.stripe.site ≡ c.args.own.now.stripe.site = c.bury.ensures.site.site ∙ ap (λ (x : StripeSide). x.stripe.site) c.tell_stripe.ensures.stripe in
     record {
       stripe = subst (λ (t : Site). stripe_of key t.stripes ≡ record { 0 = t.stripe }) (sym site) (ap (λ (n : ℕ). stripe_of key n) c.law.ensures.made_with.stripes ∙ c.requires.called.own);
@@ -38,20 +38,20 @@ pub returns-in_err-bury-in-Burial : goal.returns-in_err-bury-in-Burial
 returns-in_err-bury-in-Burial g c =
     let s = c.args.own.now.stripe in
     let told = ap (λ (x : StripeSide). x.stripe) c.tell_stripe.ensures.stripe in
-    ends_early g.N.Named.config c.args.command.now c.args.turn s c.bury.new.own c.args.caller.now c.tell_stripe.new.self c.from_residual.result c.in_err-bury-in-Burial.field-0.0 c.from_residual.ensures.1
+    ends_early g.N.Named.config c.args.task.command.now c.args.task.turn s c.bury.new.own c.args.caller.now c.tell_stripe.new.self c.from_residual.result c.in_err-bury-in-Burial.field-0.0 c.from_residual.ensures.1
     (subst (λ (t : Stripe). KeepsSite t c.bury.new.own.stripe) told c.bury.ensures.site) (c.in_err-bury-in-Burial.ensures.err ∙ ap (λ (t : Stripe). t.history) told) c.tell_stripe.ensures.same
     (λ is. inr (inl (record { link = c.in-Burial.link; dead = rw c.in-Burial.is at c.requires.wants; lacks = c.bury.ensures.full (c.in_err-bury-in-Burial.was ∙ ap Err is) })))
 
 pub returns-in_err-reply-in-Burial : goal.returns-in_err-reply-in-Burial
 returns-in_err-reply-in-Burial g c =
     let config = g.N.Named.config in
-    let command = c.args.command.now in
-    let turn = c.args.turn in
+    let command = c.args.task.command.now in
+    let turn = c.args.task.turn in
     let s = c.args.own.now.stripe in
     let mid = c.bury.new.own.stripe in
     let told = ap (λ (x : StripeSide). x.stripe) c.tell_stripe.ensures.stripe in
     let site = subst (λ (t : Stripe). KeepsSite t mid) told c.bury.ensures.site in
-    let buried = buried_now s c.tell_stripe.new.stripe.stripe mid turn.who command turn.moment c.in-Burial.link c.key.result.now told c.key.ensures
+    let buried = buried_now s c.tell_stripe.new.stripe.stripe mid turn.who command turn.moment c.in-Burial.link (key_of command) told refl
     (rw c.in-Burial.is at c.requires.wants) c.in_ok-bury-in-Burial.ensures.lost in
     let end = c.try_alone.new.own in
     let caller = c.try_alone.new.caller in
@@ -65,8 +65,8 @@ returns-in_err-reply-in-Burial g c =
 pub answer_with-requires-in-Classes-left-clause-begun : goal.answer_with-requires-in-Classes-left-clause-begun
 answer_with-requires-in-Classes-left-clause-begun g c =
     let config = g.N.Named.config in
-    let command = c.args.command.now in
-    let turn = c.args.turn in
+    let command = c.args.task.command.now in
+    let turn = c.args.task.turn in
     let call = asked_for command turn.moment in
     begun_as_sees config c.bury.new.own.sight c.try_alone.new.own.sight turn.who turn.moment call c.try_alone.ensures.sees
     (begun_as_sees config c.tell_stripe.new.stripe.sight c.bury.new.own.sight turn.who turn.moment call c.bury.ensures.sees
@@ -74,13 +74,13 @@ answer_with-requires-in-Classes-left-clause-begun g c =
 
 pub unreachable-requires : goal.unreachable-requires
 unreachable-requires g c =
-    let command = c.args.command.now in
-    let turn = c.args.turn in
+    let command = c.args.task.command.now in
+    let turn = c.args.task.turn in
     let s = c.args.own.now.stripe in
     let mid = c.bury.new.own.stripe in
     let told = ap (λ (x : StripeSide). x.stripe) c.tell_stripe.ensures.stripe in
     let site = subst (λ (t : Stripe). KeepsSite t mid) told c.bury.ensures.site in
-    let buried = buried_now s c.tell_stripe.new.stripe.stripe mid turn.who command turn.moment c.in-Burial.link c.key.result.now told c.key.ensures
+    let buried = buried_now s c.tell_stripe.new.stripe.stripe mid turn.who command turn.moment c.in-Burial.link (key_of command) told refl
     (rw c.in-Burial.is at c.requires.wants) c.in_ok-bury-in-Burial.ensures.lost in
     let tried = rw c.in-Wants.is at c.in_ok-reply-in-Burial.ensures.tried in
     some_none c.in-Burial-left.field-0 _ (rw c.in-Burial-left.is at tried.3) (not_dead (item_of mid command) turn.moment (buried_alive s mid turn.who command turn.moment site buried))
@@ -88,13 +88,13 @@ unreachable-requires g c =
 pub returns-in-Made : goal.returns-in-Made
 returns-in-Made g c =
     let config = g.N.Named.config in
-    let command = c.args.command.now in
-    let turn = c.args.turn in
+    let command = c.args.task.command.now in
+    let turn = c.args.task.turn in
     let s = c.args.own.now.stripe in
     let mid = c.bury.new.own.stripe in
     let told = ap (λ (x : StripeSide). x.stripe) c.tell_stripe.ensures.stripe in
     let site = subst (λ (t : Stripe). KeepsSite t mid) told c.bury.ensures.site in
-    let buried = buried_now s c.tell_stripe.new.stripe.stripe mid turn.who command turn.moment c.in-Burial.link c.key.result.now told c.key.ensures
+    let buried = buried_now s c.tell_stripe.new.stripe.stripe mid turn.who command turn.moment c.in-Burial.link (key_of command) told refl
     (rw c.in-Burial.is at c.requires.wants) c.in_ok-bury-in-Burial.ensures.lost in
     let end = c.try_alone.new.own in
     let caller = c.try_alone.new.caller in
@@ -108,14 +108,14 @@ returns-in-Made g c =
 pub returns-in-Classes-left : goal.returns-in-Classes-left
 returns-in-Classes-left g c =
     let config = g.N.Named.config in
-    let command = c.args.command.now in
-    let turn = c.args.turn in
+    let command = c.args.task.command.now in
+    let turn = c.args.task.turn in
     let s = c.args.own.now.stripe in
     let mid = c.bury.new.own.stripe in
     let last = c.try_alone.new.own.stripe in
     let told = ap (λ (x : StripeSide). x.stripe) c.tell_stripe.ensures.stripe in
     let site = subst (λ (t : Stripe). KeepsSite t mid) told c.bury.ensures.site in
-    let buried = buried_now s c.tell_stripe.new.stripe.stripe mid turn.who command turn.moment c.in-Burial.link c.key.result.now told c.key.ensures
+    let buried = buried_now s c.tell_stripe.new.stripe.stripe mid turn.who command turn.moment c.in-Burial.link (key_of command) told refl
     (rw c.in-Burial.is at c.requires.wants) c.in_ok-bury-in-Burial.ensures.lost in
     let tried = rw c.in-Wants.is at c.in_ok-reply-in-Burial.ensures.tried in
     let with = c.answer_with-in-Classes-left in

@@ -8,18 +8,18 @@ use Rattle.mc_store.proofs.answering.answer_with.Goals as goal
 
 pub lock_both-guard-requires-clause-home : goal.lock_both-guard-requires-clause-home
 lock_both-guard-requires-clause-home g c =
-    home_class g.N.Named.config c.args.own.now.stripe c.law.ensures.made_with c.args.command.now c.args.turn.moment c.in-Some.class (ap (λ (w : Classes). w.home) (sym c.requires.wanted.1) ∙ c.in-Some.is)
+    home_class g.N.Named.config c.args.own.now.stripe c.law.ensures.made_with c.args.task.command.now c.args.task.turn.moment c.in-Some.class (ap (λ (w : Classes). w.home) (sym c.requires.wanted.1) ∙ c.in-Some.is)
 
 pub lock_both-guard-requires-clause-other : goal.lock_both-guard-requires-clause-other
 lock_both-guard-requires-clause-other g c =
-    other_if g.N.Named.board.table g.N.Named.config c.args.own.now c.law.ensures c.args.command.now c.args.turn.moment c.args.wanted.other (ap (λ (w : Classes). w.other) (sym c.requires.wanted.1))
+    other_if g.N.Named.board.table g.N.Named.config c.args.own.now c.law.ensures c.args.task.command.now c.args.task.turn.moment c.args.wanted.other (ap (λ (w : Classes). w.other) (sym c.requires.wanted.1))
 
 pub lock_class-guard-requires : goal.lock_class-guard-requires
 lock_class-guard-requires g c =
-    rw c.in-Some-other.is at (other_if g.N.Named.board.table g.N.Named.config c.args.own.now c.law.ensures c.args.command.now c.args.turn.moment
+    rw c.in-Some-other.is at (other_if g.N.Named.board.table g.N.Named.config c.args.own.now c.law.ensures c.args.task.command.now c.args.task.turn.moment
     c.args.wanted.other (ap (λ (w : Classes). w.other) (sym c.requires.wanted.1)))
 
 pub answer_at_home-requires-clause-apart : goal.answer_at_home-requires-clause-apart
 answer_at_home-requires-clause-apart g c = λ same.
-    home_apart c.args.own.now.stripe c.args.command.now c.args.turn.moment c.args.wanted c.in-Some.class c.requires.wanted.1 c.in-Some.is
+    home_apart c.args.own.now.stripe c.args.task.command.now c.args.task.turn.moment c.args.wanted c.in-Some.class c.requires.wanted.1 c.in-Some.is
     (sym c.lock_both-guard.ensures.other ∙ (same ∙ ap (λ (n : ClassNo). Some n) (ap (λ (x : ClassSide). x.class.number) c.deref_mut-home.ensures.value ∙ c.lock_both-guard.ensures.home)))

@@ -18,8 +18,8 @@ use Rattle.mc_store.proofs.held.answer_at_home.Goals as goal
 pub unreachable-requires : goal.unreachable-requires
 unreachable-requires g c =
     let config = g.N.Named.config in
-    let command = c.args.command.now in
-    let turn = c.args.turn in
+    let command = c.args.task.command.now in
+    let turn = c.args.task.turn in
     let s = c.args.own.now.stripe in
     let mid = c.search.new.own.stripe in
     let class = c.args.home.now.class.number in
@@ -32,8 +32,8 @@ unreachable-requires g c =
 pub unreachable-requires-in-Classes : goal.unreachable-requires-in-Classes
 unreachable-requires-in-Classes g c =
     let config = g.N.Named.config in
-    let command = c.args.command.now in
-    let turn = c.args.turn in
+    let command = c.args.task.command.now in
+    let turn = c.args.task.turn in
     let s = c.args.own.now.stripe in
     let mid = c.search.new.own.stripe in
     let class = c.args.home.now.class.number in
@@ -46,63 +46,65 @@ unreachable-requires-in-Classes g c =
 pub returns-in_err-reply : goal.returns-in_err-reply
 returns-in_err-reply g c =
     let config = g.N.Named.config in
-    let command = c.args.command.now in
+    let command = c.args.task.command.now in
     let s = c.args.own.now.stripe in
     let mid = c.search.new.own.stripe in
     let alive = c.requires.wants.suffice.alive in
-    let searched = searched_walk config command c.args.turn s mid c.args.home.now.class.number alive c.requires.wants.fresh c.search.ensures.walked in
-    ends_err config command c.args.turn s mid alive searched c.search.ensures.site c.try_home.new.own c.args.caller.now c.try_home.new.caller
+    let searched = searched_walk config command c.args.task.turn s mid c.args.home.now.class.number alive c.requires.wants.fresh c.search.ensures.walked in
+    ends_err config command c.args.task.turn s mid alive searched c.search.ensures.site c.try_home.new.own c.args.caller.now c.try_home.new.caller
     c.from_residual-in_err-reply.result c.in_err-reply.field-0.0 c.from_residual-in_err-reply.ensures.1
     c.try_home.ensures.site c.in_err-reply.ensures.err.0 c.in_err-reply.ensures.err.1 (λ is. inl (c.try_home.ensures.full (c.in_err-reply.was ∙ ap Err is)))
 
 pub returns-in_err-search : goal.returns-in_err-search
 returns-in_err-search g c =
     let config = g.N.Named.config in
-    let command = c.args.command.now in
+    let command = c.args.task.command.now in
     let s = c.args.own.now.stripe in
     let mid = c.search.new.own.stripe in
     let alive = c.requires.wants.suffice.alive in
-    let searched = searched_walk config command c.args.turn s mid c.args.home.now.class.number alive c.requires.wants.fresh c.search.ensures.walked in
-    ends_err config command c.args.turn s mid alive searched c.search.ensures.site c.search.new.own c.args.caller.now c.args.caller.now
+    let searched = searched_walk config command c.args.task.turn s mid c.args.home.now.class.number alive c.requires.wants.fresh c.search.ensures.walked in
+    ends_err config command c.args.task.turn s mid alive searched c.search.ensures.site c.search.new.own c.args.caller.now c.args.caller.now
     c.from_residual.result c.in_err-search.field-0.0 c.from_residual.ensures.1 (site_itself mid) refl refl
     (λ is.
     let full = c.search.ensures.full (c.in_err-search.was ∙ ap Err is) in
-    full_search config s mid c.search.new.own.sight command c.args.turn.moment c.args.home.now.class.number alive c.requires.wants.fresh full.0 full.1)
+    full_search config s mid c.search.new.own.sight command c.args.task.turn.moment c.args.home.now.class.number alive c.requires.wants.fresh full.0 full.1)
 
 pub returns-in-Made : goal.returns-in-Made
 returns-in-Made g c =
     let config = g.N.Named.config in
-    let command = c.args.command.now in
+    let command = c.args.task.command.now in
     let s = c.args.own.now.stripe in
     let mid = c.search.new.own.stripe in
     let alive = c.requires.wants.suffice.alive in
-    let searched = searched_walk config command c.args.turn s mid c.args.home.now.class.number alive c.requires.wants.fresh c.search.ensures.walked in
-    ends_made config command c.args.turn s mid alive searched c.search.ensures.site c.try_home.new.own c.args.caller.now c.try_home.new.caller (record { reply = c.in-Made.reply; woken = c.in-Made.woken })
+    let searched = searched_walk config command c.args.task.turn s mid c.args.home.now.class.number alive c.requires.wants.fresh c.search.ensures.walked in
+    ends_made config command c.args.task.turn s mid alive searched c.search.ensures.site c.try_home.new.own c.args.caller.now c.try_home.new.caller (record { reply = c.in-Made.reply; woken = c.in-Made.woken })
     c.law.ensures.made_with c.try_home.ensures.site (rw c.in-Made.is at c.in_ok-reply.ensures.tried)
 
 pub search-requires : goal.search-requires
 search-requires g c = record {
-  begun = begun_search g.N.Named.config c.args.own.now.sight c.args.turn.who c.args.command.now c.args.turn.moment c.args.own.now.stripe c.args.home.now.class.number c.requires.wants.fresh c.requires.begun;
+  begun = begun_search g.N.Named.config c.args.own.now.sight c.args.task.turn.who c.args.task.command.now c.args.task.turn.moment c.args.own.now.stripe c.args.home.now.class.number c.requires.wants.fresh
+      c.requires.begun;
 }
 
 pub refuse-requires-clause-begun : goal.refuse-requires-clause-begun
 refuse-requires-clause-begun g c =
-    (c.args.turn.moment, search_sees g.N.Named.config c.search.new.own.sight c.try_home.new.own.sight c.args.turn.who c.args.turn.moment c.try_home.ensures.sees c.search.ensures.begun)
+    (c.args.task.turn.moment, search_sees g.N.Named.config c.search.new.own.sight c.try_home.new.own.sight c.args.task.turn.who c.args.task.turn.moment c.try_home.ensures.sees c.search.ensures.begun)
 
 pub returns-in_err-place-in-Room : goal.returns-in_err-place-in-Room
 returns-in_err-place-in-Room g c =
     let config = g.N.Named.config in
-    let command = c.args.command.now in
+    let command = c.args.task.command.now in
     let s = c.args.own.now.stripe in
     let mid = c.search.new.own.stripe in
     let alive = c.requires.wants.suffice.alive in
-    let searched = searched_walk config command c.args.turn s mid c.args.home.now.class.number alive c.requires.wants.fresh c.search.ensures.walked in
+    let searched = searched_walk config command c.args.task.turn s mid c.args.home.now.class.number alive c.requires.wants.fresh c.search.ensures.walked in
     let tried = rw c.in-Wants.is at c.in_ok-reply.ensures.tried in
     let full = rw c.in-Room.is at tried.2 in
-    subst (λ (x : StripeSide). Ends config s x c.args.caller.now c.try_home.new.caller command c.args.turn c.from_residual-in_err-place-in-Room.result) (sym c.refuse.ensures.own)
-    (ends_err config command c.args.turn s mid alive searched c.search.ensures.site c.try_home.new.own c.args.caller.now c.try_home.new.caller c.from_residual-in_err-place-in-Room.result c.in_err-place-in-Room.field-0.0
+    subst (λ (x : StripeSide). Ends config s x c.args.caller.now c.try_home.new.caller command c.args.task.turn c.from_residual-in_err-place-in-Room.result) (sym c.refuse.ensures.own)
+    (ends_err config command c.args.task.turn s mid alive searched c.search.ensures.site c.try_home.new.own c.args.caller.now c.try_home.new.caller c.from_residual-in_err-place-in-Room.result
+    c.in_err-place-in-Room.field-0.0
     c.from_residual-in_err-place-in-Room.ensures.1 c.try_home.ensures.site tried.0 tried.1
-    (λ is. full_search config s c.try_home.new.own.stripe c.try_home.new.own.sight command c.args.turn.moment c.args.home.now.class.number alive c.requires.wants.fresh
+    (λ is. full_search config s c.try_home.new.own.stripe c.try_home.new.own.sight command c.args.task.turn.moment c.args.home.now.class.number alive c.requires.wants.fresh
     (subst (HasSeenFull config c.try_home.new.own.sight) (full.0.number_is ∙ c.search.ensures.number) full.0.seen)
     (refuse_short config c.try_home.new.own.sight c.try_home.new.home.class c.refuse.new.lent.class full.0.short c.in_err-place-in-Room.ensures.err.0
     (c.refuse.ensures.full (c.in_err-place-in-Room.was ∙ ap Err is)))))
@@ -110,9 +112,9 @@ returns-in_err-place-in-Room g c =
 pub try_home-requires-in-Room-clause-refused : goal.try_home-requires-in-Room-clause-refused
 try_home-requires-in-Room-clause-refused g c =
     let config = g.N.Named.config in
-    let command = c.args.command.now in
+    let command = c.args.task.command.now in
     let s = c.args.own.now.stripe in
-    let turn = c.args.turn in
+    let turn = c.args.task.turn in
     let tried = rw c.in-Wants.is at c.in_ok-reply.ensures.tried in
     let full = rw c.in-Room.is at tried.2 in
     let lent = c.try_home.new.home.class in
@@ -129,8 +131,8 @@ try_home-requires-in-Room-clause-refused g c =
 pub returns-in-Made-2 : goal.returns-in-Made-2
 returns-in-Made-2 g c =
     let config = g.N.Named.config in
-    let command = c.args.command.now in
-    let turn = c.args.turn in
+    let command = c.args.task.command.now in
+    let turn = c.args.task.turn in
     let s = c.args.own.now.stripe in
     let mid = c.search.new.own.stripe in
     let last = c.refuse.new.own.stripe in
@@ -148,8 +150,8 @@ returns-in-Made-2 g c =
 pub returns-in_err-reply-in-Room : goal.returns-in_err-reply-in-Room
 returns-in_err-reply-in-Room g c =
     let config = g.N.Named.config in
-    let command = c.args.command.now in
-    let turn = c.args.turn in
+    let command = c.args.task.command.now in
+    let turn = c.args.task.turn in
     let s = c.args.own.now.stripe in
     let mid = c.search.new.own.stripe in
     let last = c.refuse.new.own.stripe in
@@ -166,8 +168,8 @@ returns-in_err-reply-in-Room g c =
 pub returns-in-Place : goal.returns-in-Place
 returns-in-Place g c =
     let config = g.N.Named.config in
-    let command = c.args.command.now in
-    let turn = c.args.turn in
+    let command = c.args.task.command.now in
+    let turn = c.args.task.turn in
     let s = c.args.own.now.stripe in
     let mid = c.search.new.own.stripe in
     let alive = c.requires.wants.suffice.alive in
@@ -186,8 +188,8 @@ returns-in-Place g c =
 pub returns-in-Wants-2 : goal.returns-in-Wants-2
 returns-in-Wants-2 g c =
     let config = g.N.Named.config in
-    let command = c.args.command.now in
-    let turn = c.args.turn in
+    let command = c.args.task.command.now in
+    let turn = c.args.task.turn in
     let s = c.args.own.now.stripe in
     let mid = c.search.new.own.stripe in
     let last = c.refuse.new.own.stripe in
@@ -203,8 +205,8 @@ returns-in-Wants-2 g c =
     let site = subst (λ (t : Stripe). KeepsSite mid t) (sym own) c.try_home.ensures.site in
     let same = ap (λ (t : Stripe). t.history) own ∙ tried.0 in
     let later = suffice_same mid last site same command turn.moment (Some class) other behind in
-    let again_suffice = subst (λ (n : ClassNo). Suffice (Some n) (class_held c.try_home.new.other) last c.args.command.now turn.moment) (sym number)
-    (subst (λ (o : Option ClassNo). Suffice (Some class) o last c.args.command.now turn.moment) (sym full.1) later) in
+    let again_suffice = subst (λ (n : ClassNo). Suffice (Some n) (class_held c.try_home.new.other) last c.args.task.command.now turn.moment) (sym number)
+    (subst (λ (o : Option ClassNo). Suffice (Some class) o last c.args.task.command.now turn.moment) (sym full.1) later) in
     let searched = searched_walk config command turn s mid class alive c.requires.wants.fresh c.search.ensures.walked in
     ends_cut config command turn s last alive (searched_same mid last site same command turn.moment config turn.who s searched) (site_both s mid last c.search.ensures.site site)
     c.try_home-in-Room.new.own c.args.caller.now c.try_home-in-Room.new.caller HistoryFull c.try_home-in-Room.ensures.site again.0 (again.1 ∙ tried.1)
@@ -215,6 +217,6 @@ returns-in-Wants-2 g c =
     (subst (HasSeenFull config c.try_home.new.own.sight) (full.0.number_is ∙ c.search.ensures.number) full.0.seen) in
     full_search config s end.stripe end.sight command turn.moment class alive c.requires.wants.fresh seen
     (entries_short config last end.sight command turn.moment
-    (wants_place config last end c.args.command.now turn.moment (Some c.refuse.new.lent.class.number)
+    (wants_place config last end c.args.task.command.now turn.moment (Some c.refuse.new.lent.class.number)
     (class_held c.try_home.new.other) _ again_suffice c.in-Wants-2.field-0 again.2
     (λ room. some_none c.in_ok-place-in-Room.place _ refl (rw room at again.2).0.none))))

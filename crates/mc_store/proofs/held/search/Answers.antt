@@ -9,8 +9,8 @@ returns-clause-tried g c = λ full key own alive.
     let found = c.in_ok-make_room_under in
     let was = c.args.home.now.class in
     let new = c.make_room_under.new.class.class in
-    let who = c.args.turn.who in
-    let moment = c.args.turn.moment in
+    let who = c.args.task.turn.who in
+    let moment = c.args.task.turn.moment in
     let vain = full_vain config was new who moment found.ensures.room.0 found.field-0 c.make_room_under.ensures.class found.ensures.room.1 full in
     let in_vain = found.ensures.tried vain in (
       in_vain.any key own alive,

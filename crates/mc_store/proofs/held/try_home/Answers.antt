@@ -19,13 +19,13 @@ offer_home-requires g c =
     let was = c.args.home.now in
     let side = c.ready_class.new.class in
     let s = c.args.own.now.stripe in
-    let key = key_of c.args.command.now in
+    let key = key_of c.args.task.command.now in
     let is = readied was c.meet.new.lent side c.meet.ensures.lent c.ready_class.ensures.same in
     let at : c.state.result.now ≡ side.class = c.state.ensures ∙ ap (λ (x : ClassSide). x.class) c.side.ensures.value in
     record {
-      noted = subst (λ (v : ClassView). IsNoted c.args.refused c.args.turn.who v) (sym at)
-          (noted_of g.N.Named.config s c.args.turn key side.class c.args.refused
-          (refused_of g.N.Named.board.table g.N.Named.config was side c.meet.new.lent.sight side.class.room is s c.args.turn key c.args.refused
+      noted = subst (λ (v : ClassView). IsNoted c.args.refused c.args.task.turn.who v) (sym at)
+          (noted_of g.N.Named.config s c.args.task.turn key side.class c.args.refused
+          (refused_of g.N.Named.board.table g.N.Named.config was side c.meet.new.lent.sight side.class.room is s c.args.task.turn key c.args.refused
           c.requires.refused));
     }
 
@@ -33,11 +33,11 @@ pub try_on_one-requires-clause-may : goal.try_on_one-requires-clause-may
 try_on_one-requires-clause-may g c =
     let was = c.args.home.now in
     let side = c.ready_class.new.class in
-    let key = key_of c.args.command.now in
+    let key = key_of c.args.task.command.now in
     let is = readied was c.meet.new.lent side c.meet.ensures.lent c.ready_class.ensures.same in
     let at : c.state.result.now ≡ side.class = c.state.ensures ∙ ap (λ (x : ClassSide). x.class) c.side.ensures.value in
     let same = ap (λ (x : StripeSide). x.stripe) c.meet.ensures.own in
-    let offers = subst (λ (v : ClassView). OffersHome v c.args.refused c.args.turn.who c.offer_home.result) at c.offer_home.ensures in
+    let offers = subst (λ (v : ClassView). OffersHome v c.args.refused c.args.task.turn.who c.offer_home.result) at c.offer_home.ensures in
     record {
       stripe = ap (λ (n : ℕ). stripe_of key n) c.law.ensures.made_with.stripes ∙ (c.requires.called.own ∙ ap (λ (t : Stripe). record { 0 = t.site.stripe }) (sym same));
       moment = c.requires.called.early;
@@ -51,16 +51,16 @@ pub try_on_one-requires-clause-room : goal.try_on_one-requires-clause-room
 try_on_one-requires-clause-room g c =
     let side = c.ready_class.new.class in
     let at : c.state.result.now ≡ side.class = c.state.ensures ∙ ap (λ (x : ClassSide). x.class) c.side.ensures.value in
-    let offers = subst (λ (v : ClassView). OffersHome v c.args.refused c.args.turn.who c.offer_home.result) at c.offer_home.ensures in
-    (λ same. home_fits side.class c.offer_home.result c.args.refused c.args.turn.who c.in_ok-ready_class-in-None.ensures.ready offers, tt)
+    let offers = subst (λ (v : ClassView). OffersHome v c.args.refused c.args.task.turn.who c.offer_home.result) at c.offer_home.ensures in
+    (λ same. home_fits side.class c.offer_home.result c.args.refused c.args.task.turn.who c.in_ok-ready_class-in-None.ensures.ready offers, tt)
 
 pub returns-in_ok-ready_class-in-None-clause-tried : goal.returns-in_ok-ready_class-in-None-clause-tried
 returns-in_ok-ready_class-in-None-clause-tried g c =
     let table = g.N.Named.board.table in
     let config = g.N.Named.config in
-    let command = c.args.command.now in
+    let command = c.args.task.command.now in
     let key = key_of command in
-    let turn = c.args.turn in
+    let turn = c.args.task.turn in
     let refused = c.args.refused in
     let s = c.args.own.now.stripe in
     let was = c.args.home.now in
@@ -108,13 +108,13 @@ offer_home-requires-in-Some g c =
     let was = c.args.home.now in
     let side = c.ready_class-in-Some.new.class in
     let s = c.args.own.now.stripe in
-    let key = key_of c.args.command.now in
+    let key = key_of c.args.task.command.now in
     let is = readied was c.meet-in-Some.new.lent side c.meet-in-Some.ensures.lent c.ready_class-in-Some.ensures.same in
     let at : c.state-in-Some.result.now ≡ side.class = c.state-in-Some.ensures ∙ ap (λ (x : ClassSide). x.class) c.side-in-Some.ensures.value in
     record {
-      noted = subst (λ (v : ClassView). IsNoted c.args.refused c.args.turn.who v) (sym at)
-          (noted_of g.N.Named.config s c.args.turn key side.class c.args.refused
-          (refused_of g.N.Named.board.table g.N.Named.config was side c.meet-in-Some.new.lent.sight side.class.room is s c.args.turn key c.args.refused
+      noted = subst (λ (v : ClassView). IsNoted c.args.refused c.args.task.turn.who v) (sym at)
+          (noted_of g.N.Named.config s c.args.task.turn key side.class c.args.refused
+          (refused_of g.N.Named.board.table g.N.Named.config was side c.meet-in-Some.new.lent.sight side.class.room is s c.args.task.turn key c.args.refused
           c.requires.refused));
     }
 
@@ -123,13 +123,13 @@ try_on_two-requires-clause-may g c =
     let table = g.N.Named.board.table in
     let config = g.N.Named.config in
     let refused = c.args.refused in
-    let who = c.args.turn.who in
+    let who = c.args.task.turn.who in
     let was = c.args.home.now in
     let beside = c.deref_mut-beside.result.now in
     let side = c.ready_class-in-Some.new.class in
     let side_b = c.ready_class-in-Some-2.new.class in
     let own = c.meet-in-Some-2.new.own.stripe in
-    let key = key_of c.args.command.now in
+    let key = key_of c.args.task.command.now in
     let is = readied was c.meet-in-Some.new.lent side c.meet-in-Some.ensures.lent c.ready_class-in-Some.ensures.same in
     let is_b = readied beside c.meet-in-Some-2.new.lent side_b c.meet-in-Some-2.ensures.lent c.ready_class-in-Some-2.ensures.same in
     let at : c.state-in-Some.result.now ≡ side.class = c.state-in-Some.ensures ∙ ap (λ (x : ClassSide). x.class) c.side-in-Some.ensures.value in
@@ -159,7 +159,7 @@ try_on_two-requires-clause-room g c =
     let table = g.N.Named.board.table in
     let config = g.N.Named.config in
     let refused = c.args.refused in
-    let who = c.args.turn.who in
+    let who = c.args.task.turn.who in
     let was = c.args.home.now in
     let beside = c.deref_mut-beside.result.now in
     let side = c.ready_class-in-Some.new.class in
@@ -182,9 +182,9 @@ pub returns-in_ok-ready_class-in-Some-2-clause-tried : goal.returns-in_ok-ready_
 returns-in_ok-ready_class-in-Some-2-clause-tried g c =
     let table = g.N.Named.board.table in
     let config = g.N.Named.config in
-    let command = c.args.command.now in
+    let command = c.args.task.command.now in
     let key = key_of command in
-    let turn = c.args.turn in
+    let turn = c.args.task.turn in
     let refused = c.args.refused in
     let s = c.args.own.now.stripe in
     let was = c.args.home.now in

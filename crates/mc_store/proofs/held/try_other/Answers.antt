@@ -20,8 +20,8 @@ pub returns-clause-tried : goal.returns-clause-tried
 returns-clause-tried g c =
     let table = g.N.Named.board.table in
     let config = g.N.Named.config in
-    let command = c.args.command.now in
-    let turn = c.args.turn in
+    let command = c.args.task.command.now in
+    let turn = c.args.task.turn in
     let s = c.args.own.now.stripe in
     let was = c.args.other.now in
     let met = c.meet.new.lent in

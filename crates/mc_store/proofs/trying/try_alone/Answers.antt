@@ -32,4 +32,4 @@ returns-clause-tried g c =
     left_tried step known own (left_first put.new.seen.sight put.ensures.owner) refl [] [] (λ untouched. tt)
 
 pub put_if-requires-clause-last : goal.put_if-requires-clause-last
-put_if-requires-clause-last g c = asked_unanswered c.args.caller.now c.args.turn.who c.args.command.now c.args.turn.moment c.requires.asked
+put_if-requires-clause-last g c = asked_unanswered c.args.caller.now c.args.task.turn.who c.args.task.command.now c.args.task.turn.moment c.requires.asked

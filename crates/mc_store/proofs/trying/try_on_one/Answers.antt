@@ -82,4 +82,4 @@ returns g c =
     }
 
 pub put_if-requires-clause-last : goal.put_if-requires-clause-last
-put_if-requires-clause-last g c = asked_unanswered c.args.caller.now c.args.turn.who c.args.command.now c.args.turn.moment c.requires.asked
+put_if-requires-clause-last g c = asked_unanswered c.args.caller.now c.args.task.turn.who c.args.task.command.now c.args.task.turn.moment c.requires.asked

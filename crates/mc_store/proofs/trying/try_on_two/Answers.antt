@@ -101,7 +101,7 @@ invariant_of-other g c =
     let beside = second_lent step other in
     let left = left_told (left_told (left_first put.new.seen.sight put.ensures.owner) lent c.catch_up_class.ensures c.hear.ensures.told c.hear.ensures.grows)
     beside c.catch_up_class-2.ensures c.hear-2.ensures.told c.hear-2.ensures.grows in
-    let begun = subst (λ (k : CallerView). HasCalled k c.args.turn.who c.args.turn.moment (asked_for c.args.command.now c.args.turn.moment)) (sym c.tell_owned.ensures.same) known.begun in
+    let begun = subst (λ (k : CallerView). HasCalled k c.args.task.turn.who c.args.task.turn.moment (asked_for c.args.task.command.now c.args.task.turn.moment)) (sym c.tell_owned.ensures.same) known.begun in
     class_left step known c.history.ensures.legal beside c.catch_up_class-2.ensures c.hear-2.ensures.class c.law-2.ensures.lawful (left_same left c.hear-3.ensures.stripe) c.hear-4.ensures.told c.hear-4.ensures.grows
     c.tell_owned-2.ensures.class c.tell_owned-2.ensures.grows (c.tell_owned-2.ensures.begun _ _ _ begun)
 
@@ -141,4 +141,4 @@ returns g c =
     }
 
 pub put_if-requires-clause-last : goal.put_if-requires-clause-last
-put_if-requires-clause-last g c = asked_unanswered c.args.caller.now c.args.turn.who c.args.command.now c.args.turn.moment c.requires.asked
+put_if-requires-clause-last g c = asked_unanswered c.args.caller.now c.args.task.turn.who c.args.task.command.now c.args.task.turn.moment c.requires.asked

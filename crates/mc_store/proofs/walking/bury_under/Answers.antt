@@ -1,4 +1,5 @@
 use Rattle.std.proofs.Common.{◌≡◌, ◌<◌, ◌+◌, ◌⊎◌, length, ◌++◌, ◌∷◌, [], List, Some, ap, sym, subst, ◌∙◌}
+use Rattle.mc_item.specs.Command.{key_of}
 use Rattle.mc_item.specs.declared.{fault.Fault.TheVariants.HistoryFull, stripe_event.Cause.TheVariants.Expired, stripe_event.StripeEvent.StripeEvent}
 use Rattle.mc_item.specs.declared.item.ClassNo.{ClassNo}
 use Rattle.mc_segment.specs.ClassState.{ClassView}
@@ -24,20 +25,21 @@ settle-done-requires-clause-judge g c =
     let s_is : own.state ≡ c.meet.new.own.stripe = ap (λ (x : StripeSide). x.stripe) (own_is ∙ c.own.view_is) in
     let c_is : lent.state ≡ c.meet.new.lent.class = ap (λ (x : ClassSide). x.class) (lent_is ∙ c.class.view_is) in
     let agree : AgreeNow lent.state own.state = subst (λ (s : Stripe). AgreeNow lent.state s) (sym s_is) (subst (λ (v : ClassView). AgreeNow v c.meet.new.own.stripe) (sym c_is) c.meet.ensures.met) in
-    let under : dead_link ((cache_now own.state).items c.args.key.now) c.args.moment ≡ Some c.args.link =
-    subst (λ (s : Stripe). dead_link ((cache_now s).items c.args.key.now) c.args.moment ≡ Some c.args.link) (sym (s_is ∙ ap (λ (x : StripeSide). x.stripe) c.meet.ensures.own)) c.requires.dead in
-    let dead = told_dead c.args.key.now own.state c.args.moment c.args.link under in
+    let under : dead_link ((cache_now own.state).items (key_of c.args.task.command.now)) c.args.task.turn.moment ≡ Some c.args.link =
+    subst (λ (s : Stripe). dead_link ((cache_now s).items (key_of c.args.task.command.now)) c.args.task.turn.moment ≡ Some c.args.link) (sym (s_is ∙ ap (λ (x : StripeSide). x.stripe) c.meet.ensures.own))
+    c.requires.dead in
+    let dead = told_dead (key_of c.args.task.command.now) own.state c.args.task.turn.moment c.args.link under in
     let of : c.args.link.class ≡ lent.state.number = sym c.requires.class ∙ sym (ap (λ (v : ClassView). v.number) (c_is ∙ ap (λ (x : ClassSide). x.class) c.meet.ensures.lent)) in
-    dead_listed lent.state own.state c.args.key.now c.args.moment c.args.link dead of c.history.ensures.legal c.law.ensures.lawful agree
+    dead_listed lent.state own.state (key_of c.args.task.command.now) c.args.task.turn.moment c.args.link dead of c.history.ensures.legal c.law.ensures.lawful agree
 
 pub catch_up_stripe-requires-clause-behind : goal.catch_up_stripe-requires-clause-behind
 catch_up_stripe-requires-clause-behind g c =
-    let q = question c.args.who c.args.link.number Dead c.args.moment in
+    let q = question c.args.task.turn.who c.args.link.number Dead c.args.task.turn.moment in
     settled_told _ _ _ _ q c.settle-done.result c.settle-done.ensures.settled c.settle-done.ensures.err c.own-inside.inside.0.0.owner.history c.own-inside.invariant.0
 
 pub catch_up_class-requires-clause-behind : goal.catch_up_class-requires-clause-behind
 catch_up_class-requires-clause-behind g c =
-    let q = question c.args.who c.args.link.number Dead c.args.moment in
+    let q = question c.args.task.turn.who c.args.link.number Dead c.args.task.turn.moment in
     let grows = settled_grows _ _ _ _ q c.settle-done.result c.settle-done.ensures.settled c.settle-done.ensures.err in
     class_told_more _ _ c.class-inside.inside.0.0.owner.history grows c.class-inside.invariant.0
 
@@ -50,9 +52,10 @@ invariant_of-own g c =
     let s_is : own.state ≡ c.meet.new.own.stripe = ap (λ (x : StripeSide). x.stripe) (own_is ∙ c.own.view_is) in
     let c_is : lent.state ≡ c.meet.new.lent.class = ap (λ (x : ClassSide). x.class) (lent_is ∙ c.class.view_is) in
     let agree : AgreeNow lent.state own.state = subst (λ (s : Stripe). AgreeNow lent.state s) (sym s_is) (subst (λ (v : ClassView). AgreeNow v c.meet.new.own.stripe) (sym c_is) c.meet.ensures.met) in
-    let q = question c.args.who c.args.link.number Dead c.args.moment in
-    let begun = subst (λ (x : StripeSide). HasBegun g.N.Named.config x.sight c.args.who c.args.moment) (sym (own_is ∙ c.own.view_is))
-    (begun_sees g.N.Named.config c.args.own.now.sight c.meet.new.own.sight c.args.who c.args.moment c.meet.ensures.grows (command_any g.N.Named.config c.args.own.now.sight c.args.who c.args.moment c.requires.begun)) in
+    let q = question c.args.task.turn.who c.args.link.number Dead c.args.task.turn.moment in
+    let begun = subst (λ (x : StripeSide). HasBegun g.N.Named.config x.sight c.args.task.turn.who c.args.task.turn.moment) (sym (own_is ∙ c.own.view_is))
+    (begun_sees g.N.Named.config c.args.own.now.sight c.meet.new.own.sight c.args.task.turn.who c.args.task.turn.moment c.meet.ensures.grows (command_any g.N.Named.config c.args.own.now.sight c.args.task.turn.who
+    c.args.task.turn.moment c.requires.begun)) in
     let walked = settle_walked _ _ _ _ q c.settle-done.ensures.site c.settle-done.ensures.agreement c.settle-done.result c.settle-done.ensures.settled c.settle-done.ensures.err in
     let grows = settled_grows _ _ _ _ q c.settle-done.result c.settle-done.ensures.settled c.settle-done.ensures.err in
     stripe_paired g.N.Named.board.table g.N.Named.config c.own.inside.side c.class.inside.side c.own.invariant c.class.invariant.held own.state own.owner own.seen own_is lent.state lent.owner lent.seen lent_is
@@ -69,14 +72,14 @@ invariant_of-class g c =
     let s_is : own.state ≡ c.meet.new.own.stripe = ap (λ (x : StripeSide). x.stripe) (own_is ∙ c.own.view_is) in
     let c_is : lent.state ≡ c.meet.new.lent.class = ap (λ (x : ClassSide). x.class) (lent_is ∙ c.class.view_is) in
     let agree : AgreeNow lent.state own.state = subst (λ (s : Stripe). AgreeNow lent.state s) (sym s_is) (subst (λ (v : ClassView). AgreeNow v c.meet.new.own.stripe) (sym c_is) c.meet.ensures.met) in
-    let q = question c.args.who c.args.link.number Dead c.args.moment in
+    let q = question c.args.task.turn.who c.args.link.number Dead c.args.task.turn.moment in
     let grows = settled_grows _ _ _ _ q c.settle-done.result c.settle-done.ensures.settled c.settle-done.ensures.err in
     let held = class_paired g.N.Named.board.table g.N.Named.config c.own.inside.side c.class.inside.side c.own.invariant c.class.invariant.held own.state own.owner own.seen own_is lent.state lent.owner lent.seen lent_is
     agree c.settle-done.new.stripe c.settle-done.new.class c.settle-done.ensures.site grows c.history-2.ensures.legal c.law-2.ensures.lawful c.settle-done.ensures.agreement c.settle-done.ensures.sight
     c.catch_up_stripe.new.owner c.catch_up_stripe.ensures c.catch_up_class.new.owner c.catch_up_class.ensures c.hear.new.self c.hear-2.new.stripe c.hear.new.class c.hear-2.new.self
     c.hear.ensures.class c.hear.ensures.told c.hear.ensures.grows c.hear-2.ensures.stripe c.hear-2.ensures.told c.hear-2.ensures.grows in
-    let who = c.args.who in
-    let moment = c.args.moment in
+    let who = c.args.task.turn.who in
+    let moment = c.args.task.turn.moment in
     let begun = subst (λ (x : StripeSide). HasBegunCommand g.N.Named.config x.sight who moment) (sym (own_is ∙ c.own.view_is))
     (command_sees g.N.Named.config c.args.own.now.sight c.meet.new.own.sight who moment c.meet.ensures.grows c.requires.begun) in
     let told = grows_trans own.seen.sight c.hear.new.self.sight c.learn.new.self.sight c.hear.ensures.grows
@@ -100,9 +103,10 @@ invariant_of-own-2 g c =
     let s_is : own.state ≡ c.meet.new.own.stripe = ap (λ (x : StripeSide). x.stripe) (own_is ∙ c.own.view_is) in
     let c_is : lent.state ≡ c.meet.new.lent.class = ap (λ (x : ClassSide). x.class) (lent_is ∙ c.class.view_is) in
     let agree : AgreeNow lent.state own.state = subst (λ (s : Stripe). AgreeNow lent.state s) (sym s_is) (subst (λ (v : ClassView). AgreeNow v c.meet.new.own.stripe) (sym c_is) c.meet.ensures.met) in
-    let q = question c.args.who c.args.link.number Dead c.args.moment in
-    let begun = subst (λ (x : StripeSide). HasBegun g.N.Named.config x.sight c.args.who c.args.moment) (sym (own_is ∙ c.own.view_is))
-    (begun_sees g.N.Named.config c.args.own.now.sight c.meet.new.own.sight c.args.who c.args.moment c.meet.ensures.grows (command_any g.N.Named.config c.args.own.now.sight c.args.who c.args.moment c.requires.begun)) in
+    let q = question c.args.task.turn.who c.args.link.number Dead c.args.task.turn.moment in
+    let begun = subst (λ (x : StripeSide). HasBegun g.N.Named.config x.sight c.args.task.turn.who c.args.task.turn.moment) (sym (own_is ∙ c.own.view_is))
+    (begun_sees g.N.Named.config c.args.own.now.sight c.meet.new.own.sight c.args.task.turn.who c.args.task.turn.moment c.meet.ensures.grows (command_any g.N.Named.config c.args.own.now.sight c.args.task.turn.who
+    c.args.task.turn.moment c.requires.begun)) in
     let walked = settle_walked _ _ _ _ q c.settle-done.ensures.site c.settle-done.ensures.agreement c.settle-done.result c.settle-done.ensures.settled c.settle-done.ensures.err in
     let grows = settled_grows _ _ _ _ q c.settle-done.result c.settle-done.ensures.settled c.settle-done.ensures.err in
     stripe_paired g.N.Named.board.table g.N.Named.config c.own.inside.side c.class.inside.side c.own.invariant c.class.invariant.held own.state own.owner own.seen own_is lent.state lent.owner lent.seen lent_is
@@ -119,14 +123,14 @@ invariant_of-class-2 g c =
     let s_is : own.state ≡ c.meet.new.own.stripe = ap (λ (x : StripeSide). x.stripe) (own_is ∙ c.own.view_is) in
     let c_is : lent.state ≡ c.meet.new.lent.class = ap (λ (x : ClassSide). x.class) (lent_is ∙ c.class.view_is) in
     let agree : AgreeNow lent.state own.state = subst (λ (s : Stripe). AgreeNow lent.state s) (sym s_is) (subst (λ (v : ClassView). AgreeNow v c.meet.new.own.stripe) (sym c_is) c.meet.ensures.met) in
-    let q = question c.args.who c.args.link.number Dead c.args.moment in
+    let q = question c.args.task.turn.who c.args.link.number Dead c.args.task.turn.moment in
     let grows = settled_grows _ _ _ _ q c.settle-done.result c.settle-done.ensures.settled c.settle-done.ensures.err in
     let held = class_paired g.N.Named.board.table g.N.Named.config c.own.inside.side c.class.inside.side c.own.invariant c.class.invariant.held own.state own.owner own.seen own_is lent.state lent.owner lent.seen lent_is
     agree c.settle-done.new.stripe c.settle-done.new.class c.settle-done.ensures.site grows c.history-2.ensures.legal c.law-2.ensures.lawful c.settle-done.ensures.agreement c.settle-done.ensures.sight
     c.catch_up_stripe.new.owner c.catch_up_stripe.ensures c.catch_up_class.new.owner c.catch_up_class.ensures c.hear.new.self c.hear-2.new.stripe c.hear.new.class c.hear-2.new.self
     c.hear.ensures.class c.hear.ensures.told c.hear.ensures.grows c.hear-2.ensures.stripe c.hear-2.ensures.told c.hear-2.ensures.grows in
-    let who = c.args.who in
-    let moment = c.args.moment in
+    let who = c.args.task.turn.who in
+    let moment = c.args.task.turn.moment in
     let begun = subst (λ (x : StripeSide). HasBegunCommand g.N.Named.config x.sight who moment) (sym (own_is ∙ c.own.view_is))
     (command_sees g.N.Named.config c.args.own.now.sight c.meet.new.own.sight who moment c.meet.ensures.grows c.requires.begun) in
     let told = grows_trans own.seen.sight c.hear.new.self.sight c.learn.new.self.sight c.hear.ensures.grows
@@ -150,7 +154,7 @@ returns-in_err-done-clause-full g c = λ is.
     let s_is : own.state ≡ c.meet.new.own.stripe = ap (λ (x : StripeSide). x.stripe) (own_is ∙ c.own.view_is) in
     let c_is : lent.state ≡ c.meet.new.lent.class = ap (λ (x : ClassSide). x.class) (lent_is ∙ c.class.view_is) in
     let agree : AgreeNow lent.state own.state = subst (λ (s : Stripe). AgreeNow lent.state s) (sym s_is) (subst (λ (v : ClassView). AgreeNow v c.meet.new.own.stripe) (sym c_is) c.meet.ensures.met) in
-    let q = question c.args.who c.args.link.number Dead c.args.moment in
+    let q = question c.args.task.turn.who c.args.link.number Dead c.args.task.turn.moment in
     let grows = settled_grows _ _ _ _ q c.settle-done.result c.settle-done.ensures.settled c.settle-done.ensures.err in
     let same : c.in_err-done.field-0.0 ≡ HistoryFull = err_is c.in_err-done.field-0.0 _ c.from_residual.ensures.1 is in
     let of : c.args.link.class ≡ lent.state.number = sym c.requires.class ∙ sym (ap (λ (v : ClassView). v.number) (c_is ∙ ap (λ (x : ClassSide). x.class) c.meet.ensures.lent)) in
@@ -171,17 +175,18 @@ returns-clause-lost g c =
     let s_is : own.state ≡ c.meet.new.own.stripe = ap (λ (x : StripeSide). x.stripe) (own_is ∙ c.own.view_is) in
     let c_is : lent.state ≡ c.meet.new.lent.class = ap (λ (x : ClassSide). x.class) (lent_is ∙ c.class.view_is) in
     let agree : AgreeNow lent.state own.state = subst (λ (s : Stripe). AgreeNow lent.state s) (sym s_is) (subst (λ (v : ClassView). AgreeNow v c.meet.new.own.stripe) (sym c_is) c.meet.ensures.met) in
-    let under : dead_link ((cache_now own.state).items c.args.key.now) c.args.moment ≡ Some c.args.link =
-    subst (λ (s : Stripe). dead_link ((cache_now s).items c.args.key.now) c.args.moment ≡ Some c.args.link) (sym (s_is ∙ ap (λ (x : StripeSide). x.stripe) c.meet.ensures.own)) c.requires.dead in
-    let dead = told_dead c.args.key.now own.state c.args.moment c.args.link under in
+    let under : dead_link ((cache_now own.state).items (key_of c.args.task.command.now)) c.args.task.turn.moment ≡ Some c.args.link =
+    subst (λ (s : Stripe). dead_link ((cache_now s).items (key_of c.args.task.command.now)) c.args.task.turn.moment ≡ Some c.args.link) (sym (s_is ∙ ap (λ (x : StripeSide). x.stripe) c.meet.ensures.own))
+    c.requires.dead in
+    let dead = told_dead (key_of c.args.task.command.now) own.state c.args.task.turn.moment c.args.link under in
     let of : c.args.link.class ≡ lent.state.number = sym c.requires.class ∙ sym (ap (λ (v : ClassView). v.number) (c_is ∙ ap (λ (x : ClassSide). x.class) c.meet.ensures.lent)) in
-    let q = question c.args.who c.args.link.number Dead c.args.moment in
-    let made = dead_reclaimed lent.state own.state c.args.key.now c.args.moment c.args.link dead of c.history.ensures.legal c.law.ensures.lawful agree c.args.who in
+    let q = question c.args.task.turn.who c.args.link.number Dead c.args.task.turn.moment in
+    let made = dead_reclaimed lent.state own.state (key_of c.args.task.command.now) c.args.task.turn.moment c.args.link dead of c.history.ensures.legal c.law.ensures.lawful agree c.args.task.turn.who in
     let last : c.learn.new.stripe.stripe ≡ c.settle-done.new.stripe = ap (λ (x : StripeSide). x.stripe) ((c.learn.ensures.stripe ∙ c.hear-2.ensures.stripe) ∙ c.hear.ensures.told) in
     ap (λ (s : Stripe). s.history) last
     ∙ (c.in_ok-done.ensures.settled.stripe
     ∙ (ap (λ (es : List StripeEvent). own.state.history ++ es) (ap (λ (d : Done). done_stripe_events lent.state q d) (c.in_ok-done.ensures.done ∙ made.0) ∙ made.1)
-    ∙ ap (λ (s : Stripe). s.history ++ lost_event c.args.who c.args.key.now (Expired c.args.moment) ∷ []) (s_is ∙ ap (λ (x : StripeSide). x.stripe) c.meet.ensures.own)))
+    ∙ ap (λ (s : Stripe). s.history ++ lost_event c.args.task.turn.who (key_of c.args.task.command.now) (Expired c.args.task.turn.moment) ∷ []) (s_is ∙ ap (λ (x : StripeSide). x.stripe) c.meet.ensures.own)))
 
 pub returns-in_err-done-clause-sees : goal.returns-in_err-done-clause-sees
 returns-in_err-done-clause-sees g c =

@@ -12,7 +12,7 @@ pub returns-clause-juggle : goal.returns-clause-juggle
 returns-clause-juggle g c =
     let of : c.side.inside.state ≡ c.args.class.now.class = ap (λ (x : ClassSide). x.class) (c.side.view_is ∙ c.class.view_is) in
     let with : c.store.inside.config ≡ g.N.Named.config = c.store.invariant.1 in
-    let P : ClassView → Config → Moves → Type 0 = λ v config moves. (xs : List Answer) × IsJuggle (rounds v c.args.who c.args.moment config) v.history xs c.juggle-moves.new.class.history moves in
+    let P : ClassView → Config → Moves → Type 0 = λ v config moves. (xs : List Answer) × IsJuggle (rounds v c.args.turn.who c.args.turn.moment config) v.history xs c.juggle-moves.new.class.history moves in
     ok_more c.juggle-moves.result _ (P c.args.class.now.class g.N.Named.config)
     (λ moves made. subst (λ (v : ClassView). P v g.N.Named.config moves) of (subst (λ (config : Config). P c.side.inside.state config moves) with made))
     c.juggle-moves.ensures.juggle
@@ -24,11 +24,11 @@ invariant_of-class g c =
     let made = c.juggle-moves in
     let old : ClassSide = class_side c.side.inside.owner c.side.inside.seen c.side.inside.state in
     let new : ClassSide = class_side made.new.self.owner.now made.new.self.seen.now made.new.class in
-    let call = juggling_of old.class.number c.args.moment in
-    let begun = subst (λ (x : ClassSide). HasBegunAs config x.sight c.args.who c.args.moment (juggling_of x.class.number c.args.moment)) (sym (c.side.view_is ∙ c.class.view_is)) c.requires.begun in
+    let call = juggling_of old.class.number c.args.turn.moment in
+    let begun = subst (λ (x : ClassSide). HasBegunAs config x.sight c.args.turn.who c.args.turn.moment (juggling_of x.class.number c.args.turn.moment)) (sym (c.side.view_is ∙ c.class.view_is)) c.requires.begun in
     subst (IsLockedClass table config) (sym (ap (λ (o : OwnerView). class_side o made.new.self.seen.now made.new.class) c.catch_up_class.ensures))
-    (locked_gains table config old new c.args.who c.args.moment call (subst (IsLockedClass table config) (sym c.side.view_is) c.class.invariant)
+    (locked_gains table config old new c.args.turn.who c.args.turn.moment call (subst (IsLockedClass table config) (sym c.side.view_is) c.class.invariant)
     made.ensures.served.kept (ap (λ (v : ClassView). v.number) made.ensures.gains.grows.same)
-    (begun_as_sees config old.sight new.sight c.args.who c.args.moment call made.ensures.walked.sees begun) made.ensures.walked.sees made.ensures.walked.gains
-    (of_juggling old.class.number made.ensures.walked.gains.events c.args.moment
-    (none_own c.args.who c.args.moment c.side.inside.state made.new.class made.ensures.walked.gains made.ensures.gains)))
+    (begun_as_sees config old.sight new.sight c.args.turn.who c.args.turn.moment call made.ensures.walked.sees begun) made.ensures.walked.sees made.ensures.walked.gains
+    (of_juggling old.class.number made.ensures.walked.gains.events c.args.turn.moment
+    (none_own c.args.turn.who c.args.turn.moment c.side.inside.state made.new.class made.ensures.walked.gains made.ensures.gains)))

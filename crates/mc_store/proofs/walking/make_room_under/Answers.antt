@@ -25,7 +25,7 @@ pub returns-clause-room : goal.returns-clause-room
 returns-clause-room g c =
     let of : c.side.inside.state ≡ c.args.class.now.class = ap (λ (x : ClassSide). x.class) (c.side.view_is ∙ (c.class.view_is ∙ c.learn_from.ensures.class)) in
     let last : c.hear.new.class.class ≡ c.make_room_with-found.new.class = ap (λ (x : ClassSide). x.class) c.hear.ensures.class in
-    let P : ClassView → ClassView → Bool → Type 0 = λ v w found. (xs : List Answer) × IsRoom (rounds v c.args.who c.args.moment g.N.Named.config) v.history xs w.history found in
+    let P : ClassView → ClassView → Bool → Type 0 = λ v w found. (xs : List Answer) × IsRoom (rounds v c.args.task.turn.who c.args.task.turn.moment g.N.Named.config) v.history xs w.history found in
     ok_more c.make_room_with-found.result _ (P c.args.class.now.class c.hear.new.class.class)
     (λ found made. subst (λ (w : ClassView). P c.args.class.now.class w found) (sym last) (subst (λ (v : ClassView). P v c.make_room_with-found.new.class found) of made))
     c.make_room_with-found.ensures.room
@@ -36,15 +36,15 @@ returns-clause-stripe g c =
     let walked = c.make_room_with-found.new.own.stripe in
     let own_is = ap (λ (l : Inside g.row.N.Denot). l.side) c.own-inside.view_is in
     let last : c.hear.new.self.stripe ≡ walked = ap (λ (x : StripeSide). x.stripe) c.hear.ensures.told ∙ ap (λ (x : StripeSide). x.stripe) (own_is ∙ c.own.view_is) in
-    subst (λ (s : Stripe). StripeGrows (walker_of c.args.class.now.class c.args.who c.args.moment) c.args.own.now.stripe s) (sym last)
-    (subst (λ (x : StripeSide). StripeGrows (walker_of c.args.class.now.class c.args.who c.args.moment) x.stripe walked) c.learn_from.ensures.same
-    (subst (λ (v : ClassView). StripeGrows (walker_of v c.args.who c.args.moment) c.learn_from.new.stripe.stripe walked) of c.make_room_with-found.ensures.stripe))
+    subst (λ (s : Stripe). StripeGrows (walker_of c.args.class.now.class c.args.task.turn.who c.args.task.turn.moment) c.args.own.now.stripe s) (sym last)
+    (subst (λ (x : StripeSide). StripeGrows (walker_of c.args.class.now.class c.args.task.turn.who c.args.task.turn.moment) x.stripe walked) c.learn_from.ensures.same
+    (subst (λ (v : ClassView). StripeGrows (walker_of v c.args.task.turn.who c.args.task.turn.moment) c.learn_from.new.stripe.stripe walked) of c.make_room_with-found.ensures.stripe))
 
 pub returns-clause-tried : goal.returns-clause-tried
 returns-clause-tried g c =
     let of : c.side.inside.state ≡ c.args.class.now.class = ap (λ (x : ClassSide). x.class) (c.side.view_is ∙ (c.class.view_is ∙ c.learn_from.ensures.class)) in
     let last : c.hear.new.class.class ≡ c.make_room_with-found.new.class = ap (λ (x : ClassSide). x.class) c.hear.ensures.class in
-    let P : StripeSide → ClassView → ClassView → Bool → Type 0 = λ x v w found. found ≡ false → IsSearchInVain g.N.Named.config v x.stripe c.args.who c.args.moment w.history in
+    let P : StripeSide → ClassView → ClassView → Bool → Type 0 = λ x v w found. found ≡ false → IsSearchInVain g.N.Named.config v x.stripe c.args.task.turn.who c.args.task.turn.moment w.history in
     ok_more c.make_room_with-found.result _ (P c.args.own.now c.args.class.now.class c.hear.new.class.class)
     (λ found made. subst (λ (w : ClassView). P c.args.own.now c.args.class.now.class w found) (sym last)
     (subst (λ (v : ClassView). P c.args.own.now v c.make_room_with-found.new.class found) of
@@ -83,9 +83,9 @@ returns-clause-seen g c =
 
 pub make_room_with-found-requires-clause-begun : goal.make_room_with-found-requires-clause-begun
 make_room_with-found-requires-clause-begun g c =
-    search_any g.N.Named.config c.side.inside.seen.sight c.args.who c.args.moment
-    (subst (λ (x : ClassSide). HasBegunSearch g.N.Named.config x.sight c.args.who c.args.moment) (sym (c.side.view_is ∙ c.class.view_is))
-    (search_sees g.N.Named.config c.args.own.now.sight c.learn_from.new.self.sight c.args.who c.args.moment c.learn_from.ensures.learnt c.requires.begun))
+    search_any g.N.Named.config c.side.inside.seen.sight c.args.task.turn.who c.args.task.turn.moment
+    (subst (λ (x : ClassSide). HasBegunSearch g.N.Named.config x.sight c.args.task.turn.who c.args.task.turn.moment) (sym (c.side.view_is ∙ c.class.view_is))
+    (search_sees g.N.Named.config c.args.own.now.sight c.learn_from.new.self.sight c.args.task.turn.who c.args.task.turn.moment c.learn_from.ensures.learnt c.requires.begun))
 
 pub invariant_of-class : goal.invariant_of-class
 invariant_of-class g c =
@@ -95,28 +95,28 @@ invariant_of-class g c =
     let new = made.new in
     let old : ClassSide = class_side c.side.inside.owner c.side.inside.seen c.side.inside.state in
     let mid : ClassSide = class_side new.owner new.seen new.class in
-    let begun = subst (λ (x : ClassSide). HasBegunSearch config x.sight c.args.who c.args.moment) (sym (c.side.view_is ∙ c.class.view_is))
-    (search_sees config c.args.own.now.sight c.learn_from.new.self.sight c.args.who c.args.moment c.learn_from.ensures.learnt c.requires.begun) in
+    let begun = subst (λ (x : ClassSide). HasBegunSearch config x.sight c.args.task.turn.who c.args.task.turn.moment) (sym (c.side.view_is ∙ c.class.view_is))
+    (search_sees config c.args.own.now.sight c.learn_from.new.self.sight c.args.task.turn.who c.args.task.turn.moment c.learn_from.ensures.learnt c.requires.begun) in
     let last : c.hear.new.class ≡ mid =
     c.hear.ensures.class
     ∙ (ap (λ (x : SeenView). class_side c.catch_up_class.new.owner x new.class) c.learn.ensures.other ∙ ap (λ (o : OwnerView). class_side o new.seen new.class) c.catch_up_class.ensures) in
-    let searched = search_sees config old.sight mid.sight c.args.who c.args.moment made.ensures.searched.walked.sees begun in
+    let searched = search_sees config old.sight mid.sight c.args.task.turn.who c.args.task.turn.moment made.ensures.searched.walked.sees begun in
     subst (IsLockedClass table config) (sym last)
-    (locked_commanded table config old mid c.args.who c.args.moment (subst (IsLockedClass table config) (sym c.side.view_is) c.class.invariant)
+    (locked_commanded table config old mid c.args.task.turn.who c.args.task.turn.moment (subst (IsLockedClass table config) (sym c.side.view_is) c.class.invariant)
     made.ensures.served.kept (ap (λ (v : ClassView). v.number) made.ensures.class.same)
     (record { command = searched.command; begun = searched.begun }) made.ensures.searched.walked.sees (
       made.ensures.searched.walked.gains,
-      suited_search c.args.who c.args.moment searched.command searched.needs made.ensures.searched.walked.gains.events made.ensures.searched.walked.gains.each
+      suited_search c.args.task.turn.who c.args.task.turn.moment searched.command searched.needs made.ensures.searched.walked.gains.events made.ensures.searched.walked.gains.each
           made.ensures.searched.none,
     ))
 
 pub returns-clause-begun : goal.returns-clause-begun
 returns-clause-begun g c =
     let config = g.N.Named.config in
-    let begun = subst (λ (x : ClassSide). HasBegunSearch config x.sight c.args.who c.args.moment) (sym (c.side.view_is ∙ c.class.view_is))
-    (search_sees config c.args.own.now.sight c.learn_from.new.self.sight c.args.who c.args.moment c.learn_from.ensures.learnt c.requires.begun) in
+    let begun = subst (λ (x : ClassSide). HasBegunSearch config x.sight c.args.task.turn.who c.args.task.turn.moment) (sym (c.side.view_is ∙ c.class.view_is))
+    (search_sees config c.args.own.now.sight c.learn_from.new.self.sight c.args.task.turn.who c.args.task.turn.moment c.learn_from.ensures.learnt c.requires.begun) in
     let seen = c.make_room_with-found.new.seen.sight in
     let told = c.learn.new.self.sight in
-    search_sees g.N.Named.config c.side.inside.seen.sight c.hear.new.self.sight c.args.who c.args.moment
+    search_sees g.N.Named.config c.side.inside.seen.sight c.hear.new.self.sight c.args.task.turn.who c.args.task.turn.moment
     (grows_trans c.side.inside.seen.sight seen c.hear.new.self.sight c.make_room_with-found.ensures.searched.walked.sees (grows_trans seen told c.hear.new.self.sight c.learn.ensures.theirs c.hear.ensures.grows))
     begun

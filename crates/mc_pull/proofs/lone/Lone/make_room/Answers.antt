@@ -4,4 +4,4 @@ use Rattle.mc_pull.proofs.lone.Lone.make_room.Goals as goal
 
 pub returns-clause-walked : goal.returns-clause-walked
 returns-clause-walked c =
-    c.make_room.ensures.kept c.args.self.now c.args.class.now.history (walked_itself (walker_of c.args.class.now c.args.who c.args.moment) c.args.self.now.stripe.now c.args.class.now.history)
+    c.make_room.ensures.kept c.args.self.now c.args.class.now.history (walked_itself (walker_of c.args.class.now c.args.context.turn.who c.args.context.turn.moment) c.args.self.now.stripe.now c.args.class.now.history)

@@ -1,3 +1,5 @@
+use Rattle.std.proofs.Common.{subst}
+use Rattle.mc_pull.specs.Lone.{Serves}
 use Rattle.mc_pull.proofs.GrowthLemmas.{class_later}
 use Rattle.mc_pull_tests.proofs.tests.hitting.take.Goals as goal
 
@@ -8,6 +10,6 @@ invariant_of-world c =
     record {
       sound = record {
         class = class_later before.config before.class c.advance.new.class before.sound.class c.advance.ensures.gains.grows;
-        stripe = c.advance.ensures.serves;
+        stripe = subst (Serves 0 c.advance.new.gate.stripe.now) c.context-context.ensures.config c.advance.ensures.serves;
       };
     }

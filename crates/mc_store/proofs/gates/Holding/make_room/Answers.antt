@@ -7,37 +7,39 @@ use Rattle.mc_store.proofs.gates.Holding.make_room.Goals as goal
 
 pub returns-clause-stripe : goal.returns-clause-stripe
 returns-clause-stripe g c =
-    let w = walker_of c.args.class.now c.args.who c.args.moment in
+    let w = walker_of c.args.class.now c.args.context.turn.who c.args.context.turn.moment in
     let own = c.args.self.now.own.now.stripe in
     let first = looked_itself g.N.Named.config.stripes w own c.args.self.now.others.answers.now.items c.args.class.now.history in
-    let searched = searches_none c.args.who c.args.moment c.args.self.now.others.seen.now.sight c.args.class.now.history in
+    let searched = searches_none c.args.context.turn.who c.args.context.turn.moment c.args.self.now.others.seen.now.sight c.args.class.now.history in
     (c.make_room.ensures.kept c.args.self.now c.args.class.now.history (grew_itself w own, λ of. (of, first), searched)).0
 
 pub returns-clause-room : goal.returns-clause-room
 returns-clause-room g c =
-    ok_more c.make_room.result _ (λ (found : Bool). (xs : List Answer) × IsRoom (rounds c.args.class.now c.args.who c.args.moment c.args.config.now) c.args.class.now.history xs c.make_room.new.class.history found)
+    ok_more c.make_room.result _ (λ (found : Bool). (xs : List Answer) × IsRoom (rounds c.args.class.now c.args.context.turn.who c.args.context.turn.moment c.args.context.config.now) c.args.class.now.history xs
+    c.make_room.new.class.history found)
     (λ found made. (made.0, made.2)) c.make_room.ensures.room
 
 pub returns-clause-tried : goal.returns-clause-tried
 returns-clause-tried g c =
     let config = g.N.Named.config in
-    let w = walker_of c.args.class.now c.args.who c.args.moment in
+    let w = walker_of c.args.class.now c.args.context.turn.who c.args.context.turn.moment in
     let own = c.args.self.now.own.now.stripe in
     let xs = c.args.self.now.others.answers.now.items in
     let after = c.make_room.new.class.history in
     let first = looked_itself config.stripes w own xs c.args.class.now.history in
-    let searched = searches_none c.args.who c.args.moment c.args.self.now.others.seen.now.sight c.args.class.now.history in
+    let searched = searches_none c.args.context.turn.who c.args.context.turn.moment c.args.self.now.others.seen.now.sight c.args.class.now.history in
     let kept = c.make_room.ensures.kept c.args.self.now c.args.class.now.history (grew_itself w own, λ of. (of, first), searched) in
-    ok_more c.make_room.result _ (λ (found : Bool). found ≡ false → IsOfCall w c.args.self.now.others.who c.args.self.now.others.moment → IsSearchInVain config c.args.class.now own c.args.who c.args.moment after)
+    ok_more c.make_room.result _ (λ (found : Bool). found ≡ false → IsOfCall w c.args.self.now.others.who c.args.self.now.others.moment → IsSearchInVain config c.args.class.now own c.args.context.turn.who
+    c.args.context.turn.moment after)
     (λ found made vain of.
-    tried_any config c.args.config.now c.args.class.now c.args.who c.args.moment own xs c.make_room.new.gate.others.answers.now.items made.0 after found
+    tried_any config c.args.context.config.now c.args.class.now c.args.context.turn.who c.args.context.turn.moment own xs c.make_room.new.gate.others.answers.now.items made.0 after found
     c.requires.names c.a_search_in_vain_has_tried.ensures (kept.1 of).1 made.1 made.2 vain)
     c.make_room.ensures.room
 
 pub returns-clause-searched : goal.returns-clause-searched
 returns-clause-searched g c =
-    let w = walker_of c.args.class.now c.args.who c.args.moment in
+    let w = walker_of c.args.class.now c.args.context.turn.who c.args.context.turn.moment in
     let own = c.args.self.now.own.now.stripe in
     let first = looked_itself g.N.Named.config.stripes w own c.args.self.now.others.answers.now.items c.args.class.now.history in
-    let searched = searches_none c.args.who c.args.moment c.args.self.now.others.seen.now.sight c.args.class.now.history in
+    let searched = searches_none c.args.context.turn.who c.args.context.turn.moment c.args.self.now.others.seen.now.sight c.args.class.now.history in
     (c.make_room.ensures.kept c.args.self.now c.args.class.now.history (grew_itself w own, λ of. (of, first), searched)).2

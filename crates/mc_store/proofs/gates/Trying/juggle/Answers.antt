@@ -12,13 +12,14 @@ juggle-requires-clause-outlasts g c = record {
 }
 
 pub juggle-requires-clause-surveys : goal.juggle-requires-clause-surveys
-juggle-requires-clause-surveys g c = λ first begun gate history survey by at kept. (kept.0, kept.1, walks_survey c.args.who c.args.moment _ _ _ _ survey by at kept.2)
+juggle-requires-clause-surveys g c = λ first begun gate history survey by at kept. (kept.0, kept.1, walks_survey c.args.context.turn.who c.args.context.turn.moment _ _ _ _ survey by at kept.2)
 
 pub returns-clause-juggle : goal.returns-clause-juggle
 returns-clause-juggle g c =
-    ok_more c.juggle.result _ (λ (moves : Moves). (xs : List Answer) × IsJuggle (rounds c.args.class.now c.args.who c.args.moment c.args.config.now) c.args.class.now.history xs c.juggle.new.class.history moves)
+    ok_more c.juggle.result _ (λ (moves : Moves). (xs : List Answer) × IsJuggle (rounds c.args.class.now c.args.context.turn.who c.args.context.turn.moment c.args.context.config.now) c.args.class.now.history xs
+    c.juggle.new.class.history moves)
     (λ moves made. (made.0, made.2)) c.juggle.ensures.juggle
 
 pub returns-clause-walked : goal.returns-clause-walked
 returns-clause-walked g c =
-    (c.juggle.ensures.kept c.args.self.now c.args.class.now.history (refl, refl, walks_none c.args.who c.args.moment c.args.self.now.seen.now.sight c.args.class.now.history)).2
+    (c.juggle.ensures.kept c.args.self.now c.args.class.now.history (refl, refl, walks_none c.args.context.turn.who c.args.context.turn.moment c.args.self.now.seen.now.sight c.args.class.now.history)).2

@@ -39,10 +39,10 @@ returns-clause-reclaims g c =
     let grew = class_grew table config c.args.class c.args.pass.now.sight c.share.new.seen.sight old new old_kept new_kept number grows behind told all in
     let first = c.args.histogram.now.reclaimed in
     let last = c.crawl_under-done.new.histogram.reclaimed in
-    on_ok_more c.crawl_under-done.result (Reclaims c.args.who c.args.moment old.class.history new.class.history first last)
-    (ShowsReclaims config c.args.class c.args.pass.now.sight c.share.new.seen.sight c.args.who c.args.moment first last)
-    (shows_one config c.args.class c.args.pass.now.sight c.share.new.seen.sight c.args.who c.args.moment first last old.class.history new.class.history grew.seen grew.now)
-    (subst (λ (v : ClassView). OnOk c.crawl_under-done.result (Reclaims c.args.who c.args.moment v.history new.class.history first last)) cls c.crawl_under-done.ensures.reclaims)
+    on_ok_more c.crawl_under-done.result (Reclaims c.args.turn.who c.args.turn.moment old.class.history new.class.history first last)
+    (ShowsReclaims config c.args.class c.args.pass.now.sight c.share.new.seen.sight c.args.turn.who c.args.turn.moment first last)
+    (shows_one config c.args.class c.args.pass.now.sight c.share.new.seen.sight c.args.turn.who c.args.turn.moment first last old.class.history new.class.history grew.seen grew.now)
+    (subst (λ (v : ClassView). OnOk c.crawl_under-done.result (Reclaims c.args.turn.who c.args.turn.moment v.history new.class.history first last)) cls c.crawl_under-done.ensures.reclaims)
 
 pub returns-clause-full : goal.returns-clause-full
 returns-clause-full g c = λ is.
@@ -68,12 +68,12 @@ returns-clause-full g c = λ is.
 
 pub crawl_under-done-requires-clause-begun : goal.crawl_under-done-requires-clause-begun
 crawl_under-done-requires-clause-begun g c =
-    let call = crawling_of c.args.class c.args.moment in
+    let call = crawling_of c.args.class c.args.turn.moment in
     let same : c.compare.new.self ≡ c.own.inside.side = c.compare.ensures.same.0 in
     let number : c.tell_class.new.class.class.number ≡ c.args.class =
     ap (λ (x : ClassSide). x.class.number) c.tell_class.ensures.class ∙ (ap (λ (x : ClassSide). x.class.number) (same ∙ (c.own.view_is ∙ c.deref_mut-own.ensures.value)) ∙ c.lock_class-guard.ensures) in
-    let begun = c.tell_class.ensures.begun c.args.who c.args.moment call (subst (λ (p : PassView). HasCalled (caller_of p) c.args.who c.args.moment call) (sym c.pass.view_is) c.requires.called) in
-    subst (λ (n : ClassNo). HasBegunAs g.N.Named.config c.tell_class.new.class.sight c.args.who c.args.moment (crawling_of n c.args.moment)) (sym number) begun
+    let begun = c.tell_class.ensures.begun c.args.turn.who c.args.turn.moment call (subst (λ (p : PassView). HasCalled (caller_of p) c.args.turn.who c.args.turn.moment call) (sym c.pass.view_is) c.requires.called) in
+    subst (λ (n : ClassNo). HasBegunAs g.N.Named.config c.tell_class.new.class.sight c.args.turn.who c.args.turn.moment (crawling_of n c.args.turn.moment)) (sym number) begun
 
 pub returns-clause-sound : goal.returns-clause-sound
 returns-clause-sound g c =
@@ -113,11 +113,11 @@ returns-clause-counted g c =
     let grew = class_grew table config c.args.class c.args.pass.now.sight c.share.new.seen.sight old new old_kept new_kept number grows behind told all in
     let first = c.args.histogram.now in
     let last = c.crawl_under-done.new.histogram in
-    on_ok_more c.crawl_under-done.result (CountsLink config old.class new.class c.args.who c.args.moment c.args.link first last)
+    on_ok_more c.crawl_under-done.result (CountsLink config old.class new.class c.args.turn.who c.args.turn.moment c.args.link first last)
     (IsLinkCounted config c.args.class (list_at c.args.pass.now.sight.seen (class_lock config c.args.class))
-    (list_at c.share.new.seen.sight.seen (class_lock config c.args.class)) c.args.who c.args.moment c.args.link first last)
-    (link_counted config c.args.class c.args.pass.now.sight c.share.new.seen.sight c.args.who c.args.moment c.args.link first last old.class new.class grew)
-    (subst (λ (v : ClassView). OnOk c.crawl_under-done.result (CountsLink config v new.class c.args.who c.args.moment c.args.link first last)) cls c.crawl_under-done.ensures.counted)
+    (list_at c.share.new.seen.sight.seen (class_lock config c.args.class)) c.args.turn.who c.args.turn.moment c.args.link first last)
+    (link_counted config c.args.class c.args.pass.now.sight c.share.new.seen.sight c.args.turn.who c.args.turn.moment c.args.link first last old.class new.class grew)
+    (subst (λ (v : ClassView). OnOk c.crawl_under-done.result (CountsLink config v new.class c.args.turn.who c.args.turn.moment c.args.link first last)) cls c.crawl_under-done.ensures.counted)
 
 pub invariant_of-pass : goal.invariant_of-pass
 invariant_of-pass g c =
