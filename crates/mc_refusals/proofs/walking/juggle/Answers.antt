@@ -1,0 +1,19 @@
+use Rattle.std.proofs.Common.{◌∙◌, ap, subst}
+use Rattle.mc_item.specs.declared.config.Config.{Config}
+use Rattle.mc_pull.specs.Question.{IsStripeOf}
+use Rattle.mc_pull.proofs.GrowthLemmas.{class_later}
+use Rattle.mc_refusals.proofs.walking.juggle.Goals as goal
+
+-- the class has only grown, and the stripe is the one that was lent
+pub invariant_of-world : goal.invariant_of-world
+invariant_of-world c =
+    let before = c.args.world.now in
+    record {
+      sound = record {
+        class = class_later before.config before.class c.juggle-moves.new.class before.sound.class c.juggle-moves.ensures.grows;
+        stripe = record {
+          number_is = ap (λ site. site.stripe) c.juggle-moves.ensures.walked.grows.site.site ∙ before.sound.stripe.number_is;
+          made_with = subst (λ (config : Config). IsStripeOf config c.juggle-moves.new.self.stripe.now) c.context-context.ensures.config c.juggle-moves.ensures.serves.made_with;
+        };
+      };
+    }

@@ -1,0 +1,23 @@
+use Rattle.std.proofs.Common.{◌∙◌, ap, subst}
+use Rattle.mc_item.specs.declared.config.Config.{Config}
+use Rattle.mc_pull.specs.Question.{IsStripeOf}
+use Rattle.mc_pull.proofs.GrowthLemmas.{class_later}
+use Rattle.mc_pull.proofs.OneStripeGateLemmas.{walked_itself}
+use Rattle.mc_refusals.proofs.walking.take_hit.Goals as goal
+
+-- the class has only grown, and the stripe is the one that was lent
+pub invariant_of-world : goal.invariant_of-world
+invariant_of-world c =
+    let before = c.args.world.now in
+    let gate = c.advance-moved.new.gate in
+    let lent = record gate { stripe = record gate.stripe { now = before.stripe } } in
+    let walked = c.advance-moved.ensures.kept lent before.class.history (walked_itself _ before.stripe before.class.history) in
+    record {
+      sound = record {
+        class = class_later before.config before.class c.advance-moved.new.class before.sound.class c.advance-moved.ensures.gains.grows;
+        stripe = record {
+          number_is = ap (λ site. site.stripe) walked.grows.site.site ∙ before.sound.stripe.number_is;
+          made_with = subst (λ (config : Config). IsStripeOf config c.advance-moved.new.gate.stripe.now) c.context-context.ensures.config c.advance-moved.ensures.serves.made_with;
+        };
+      };
+    }
