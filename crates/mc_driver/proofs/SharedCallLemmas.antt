@@ -1,11 +1,12 @@
 -- What a call on a store that threads share leaves of what its pass knows.
-use Rattle.std.proofs.Common.{◌≡◌, ◌<◌, ◌≤◌, ℕ, List, [], ◌∷◌, ◌++◌, Result, Ok, Err, refl, sym, ap, ◌∙◌, append-nil, subst, arith, length, length-append, ◌⊎◌, inl, inr}
-use Rattle.std.specs.Prelude.{IfOk, None, OnErr, Some, cond, nat_eq, true, OnOk}
+use Rattle.std.proofs.Common.{◌≡◌, ◌+◌, ◌<◌, ◌≤◌, ℕ, List, [], ◌∷◌, ◌++◌, Result, Ok, Err, refl, sym, ap, ◌∙◌, append-nil, subst, arith, length, length-append, ◌⊎◌, inl, inr}
+use Rattle.std.specs.Prelude.{IfOk, None, OnErr, Some, cond, nat_eq, true, IsErrOf, OnOk}
 use Rattle.std.specs.List.{slice_get}
 use Rattle.std.proofs.lemmas.List.Elements.{filter-append}
 use Rattle.mc_item.specs.declared.{call_event.CallEvent.CallEvent, command.Command.Command, config.Config.Config, counts.Moves.Moves, fault.Fault.Fault}
 use Rattle.mc_item.specs.declared.{item.ClassNo.ClassNo, item.Who.Who, reply.Reply.Reply, stripe_event.Did.Did, stripe_event.StripeEvent.StripeEvent}
 use Rattle.mc_item.specs.declared.{counts.Histogram.Histogram}
+use Rattle.mc_item.specs.declared.fault.Fault.TheVariants.{HistoryFull}
 use Rattle.mc_item.specs.declared.stripe_event.StripeEvent.TheVariants as events
 use Rattle.mc_board.specs.Histories.{Grows, list_at}
 use Rattle.mc_board.specs.declared.rule.Sight.{Sight}
@@ -13,17 +14,17 @@ use Rattle.mc_board.proofs.PrefixLemmas.{prefix_length}
 use Rattle.mc_evidence.specs.{Seen.stripe_events, Setting.IsClass}
 use Rattle.mc_evidence.proofs.SeenLemmas.{stripe_events-map}
 use Rattle.mc_segment.specs.ClassCalls.{limited_event}
-use Rattle.mc_proto.specs.Answers.{Counted, Limited, Moved, Replied}
-use Rattle.mc_script.specs.{Calls.AddsCalls, Calls.AddsUp, Calls.BreaksOff, Exchanges.Asks, Exchanges.Begun, Exchanges.Crawls, Exchanges.Exchange}
-use Rattle.mc_script.specs.Exchanges.{Juggles, Limits, ScriptCall, exchange}
+use Rattle.mc_proto.specs.Answers.{Answer, Counted, Limited, Moved, Replied}
+use Rattle.mc_script.specs.{Calls.AddsCalls, Calls.AddsUp, Calls.BreaksOff, Calls.GoesOn, Calls.MakesCalls, Exchanges.Asks, Exchanges.Begun, Exchanges.Crawls, Exchanges.Exchange}
+use Rattle.mc_script.specs.Exchanges.{IsOfKind, Juggles, Limits, ScriptCall, exchange}
 use Rattle.mc_store.specs.Callers.{answered_at, asked_for, crawling_of, juggling_of, limits_of, turns_of}
 use Rattle.mc_store.specs.{Calls.IsJuggledBy, Calls.HasGained, Calls.IsRepliedBy, Locked.setting_of, Passes.PassView, Passes.next_who, Crawls.IsCrawledBy}
 use Rattle.mc_driver.specs.{Called.AreInTurn, Called.call_event_of}
-use Rattle.mc_driver.specs.Caller.{AreAt, AreNoted, AreRising, IsAt, MayCall, histories_seen, places_in}
+use Rattle.mc_driver.specs.Caller.{AreAt, AreNoted, AreRising, IsAt, MayCall, histories_seen, places_in, view_of}
 use Rattle.mc_driver.specs.Stand.{StandsBetween, calls_at, is_command_at, nothing_seen, stripe_number}
 use Rattle.mc_driver.proofs.NotedPlaceLemmas.{at_later, at_push_if, get_next, places_in-push, rising_push_if, stripe_begins, places_in-call}
 use Rattle.mc_driver.proofs.SeenByCallLemmas.{crawled_between, juggled_between, limited_between, replied_between, seen_grow}
-use Rattle.mc_driver.proofs.CalledEventLemmas.{call_event_of-turn, event_for, in_turn_more, replied_turns, turns_begun, turns_more, turns_of-call}
+use Rattle.mc_driver.proofs.CalledEventLemmas.{call_event_of-turn, event_for, in_turn_more, may_again, replied_turns, turns_begun, turns_more, turns_of-call}
 use Rattle.mc_driver.proofs.{OnlyCallsLemmas.is_same, StandingCallLemmas.stand_later, StandingCallLemmas.stand_more}
 
 -- where a reply was noted, and what stands there
@@ -153,7 +154,7 @@ module _ (config : Config) (old new : PassView) (same : new.caller ≡ old.calle
       }
 
   -- a call that went wrong is the last one begun, unless nothing happened
-  breaks_off : (made : ScriptCall) (moment : ℕ) → IsCut old new (call_event_of made moment) → BreaksOff (AreNoted config old) (AreNoted config new) made moment
+  breaks_off : (made : ScriptCall) (moment : ℕ) → IsCut old new (call_event_of made moment) → BreaksOff made moment (view_of config old) (view_of config new)
   breaks_off made moment (inl is) = record { at = λ calls noted. (None, tt, subst (λ (p : PassView). AreNoted config p calls None) (sym is) noted) }
   breaks_off made moment (inr gained) =
       let begun : Begun = record { call = made; moment = moment } in
@@ -173,42 +174,58 @@ module _ (config : Config) (old new : PassView) (same : new.caller ≡ old.calle
         );
       }
 
+  -- one call was made
+  made_one : (call : ScriptCall) (answer : Answer) (moment : ℕ) → IsOfKind call answer → new.turn ≡ old.turn + 1
+      → AddsCalls (AreNoted config old) (AreNoted config new) (exchange old.caller old.turn call moment answer ∷ [])
+      → MakesCalls (call ∷ []) (answer ∷ []) moment (view_of config old) (view_of config new)
+  made_one asked answer moment kind turn adds = record { long = refl; kinds = (kind, tt); noted = adds; turns = turn; caller = same }
+
   -- as a call answers it: a reply is noted
-  pub replied_ok : (command : Command) (moment : ℕ) (r : Result Reply Fault) → MayCall config old
+  pub replied_ok : (command : Command) (moment : ℕ) (r : Result Reply Fault) → MayCall config old → OnOk r (new.turn ≡ old.turn + 1)
       → IfOk r (IsRepliedBy config (stripe_number config.stripes command) old.sight new.sight old.calls new.calls (record { caller = old.caller; turn = old.turn }) command moment)
-      → IfOk r (λ reply. AddsCalls (AreNoted config old) (AreNoted config new) (exchange old.caller old.turn (Asks command) moment (Replied reply) ∷ []))
-  replied_ok command moment (Ok reply) may by = replied_adds command moment reply may by
-  replied_ok command moment (Err fault) may by = tt
+      → IfOk r (λ reply. MakesCalls (Asks command ∷ []) (Replied reply ∷ []) moment (view_of config old) (view_of config new))
+  replied_ok command moment (Ok reply) may turn by = made_one _ _ moment tt turn (replied_adds command moment reply may by)
+  replied_ok command moment (Err fault) may turn by = tt
 
   -- juggling is noted where it was done
-  pub juggled_ok : (class : ClassNo) (moment : ℕ) (r : Result Moves Fault) → MayCall config old → IsClass (setting_of config) class
+  pub juggled_ok : (class : ClassNo) (moment : ℕ) (r : Result Moves Fault) → MayCall config old → OnOk r (new.turn ≡ old.turn + 1) → IsClass (setting_of config) class
       → OnOk r (new.calls ≡ old.calls ++ juggling_of class moment ∷ []) → IfOk r (IsJuggledBy config class old new moment)
-      → IfOk r (λ moves. AddsCalls (AreNoted config old) (AreNoted config new) (exchange old.caller old.turn (Juggles class) moment (Moved moves) ∷ []))
-  juggled_ok class moment (Ok moves) may is gained by = class_adds _ may refl gained (λ n. refl) (juggled_between config class old new moment moves is grows by)
-  juggled_ok class moment (Err fault) may is gained by = tt
+      → IfOk r (λ moves. MakesCalls (Juggles class ∷ []) (Moved moves ∷ []) moment (view_of config old) (view_of config new))
+  juggled_ok class moment (Ok moves) may turn is gained by =
+      made_one _ _ moment tt turn (class_adds _ may refl gained (λ n. refl) (juggled_between config class old new moment moves is grows by))
+  juggled_ok class moment (Err fault) may turn is gained by = tt
 
   -- and a crawl where it was made
-  pub crawled_ok : (class : ClassNo) (moment : ℕ) (r : Result Histogram Fault) → MayCall config old → IsClass (setting_of config) class
+  pub crawled_ok : (class : ClassNo) (moment : ℕ) (r : Result Histogram Fault) → MayCall config old → OnOk r (new.turn ≡ old.turn + 1) → IsClass (setting_of config) class
       → OnOk r (new.calls ≡ old.calls ++ crawling_of class moment ∷ [])
       → IfOk r (IsCrawledBy config class old.sight new.sight (record { caller = old.caller; turn = old.turn }) moment)
-      → IfOk r (λ histogram. AddsCalls (AreNoted config old) (AreNoted config new) (exchange old.caller old.turn (Crawls class) moment (Counted histogram) ∷ []))
-  crawled_ok class moment (Ok histogram) may is gained by =
-      class_adds _ may refl gained (λ n. refl) (crawled_between config class old.sight new.sight (next_who old) moment histogram is grows by)
-  crawled_ok class moment (Err fault) may is gained by = tt
+      → IfOk r (λ histogram. MakesCalls (Crawls class ∷ []) (Counted histogram ∷ []) moment (view_of config old) (view_of config new))
+  crawled_ok class moment (Ok histogram) may turn is gained by =
+      made_one _ _ moment tt turn (class_adds _ may refl gained (λ n. refl) (crawled_between config class old.sight new.sight (next_who old) moment histogram is grows by))
+  crawled_ok class moment (Err fault) may turn is gained by = tt
 
   -- and a new limit where it was set
-  pub limited_ok : {T : Type 0} (class : ClassNo) (chunks moment : ℕ) (r : Result T Fault) → MayCall config old → IsClass (setting_of config) class
+  pub limited_ok : {T : Type 0} (class : ClassNo) (chunks moment : ℕ) (r : Result T Fault) → MayCall config old → OnOk r (new.turn ≡ old.turn + 1) → IsClass (setting_of config) class
       → OnOk r (new.calls ≡ old.calls ++ limits_of class chunks ∷ []) → OnOk r (HasGained config class old.sight new.sight (next_who old) (limited_event (next_who old) chunks ∷ []))
-      → OnOk r (AddsCalls (AreNoted config old) (AreNoted config new) (exchange old.caller old.turn (Limits class chunks) moment Limited ∷ []))
-  limited_ok class chunks moment (Ok x) may is gained by =
-      class_adds _ may refl gained (λ n. refl) (limited_between config class old.sight new.sight (next_who old) chunks moment is grows by)
-  limited_ok class chunks moment (Err fault) may is gained by = tt
+      → OnOk r (MakesCalls (Limits class chunks ∷ []) (Limited ∷ []) moment (view_of config old) (view_of config new))
+  limited_ok class chunks moment (Ok x) may turn is gained by =
+      made_one _ _ moment tt turn (class_adds _ may refl gained (λ n. refl) (limited_between config class old.sight new.sight (next_who old) chunks moment is grows by))
+  limited_ok class chunks moment (Err fault) may turn is gained by = tt
 
   -- and what went wrong breaks off
   pub call_failed : {T : Type 0} (made : ScriptCall) (moment : ℕ) (r : Result T Fault) → OnErr r (IsCut old new (call_event_of made moment))
-      → OnErr r (BreaksOff (AreNoted config old) (AreNoted config new) made moment)
+      → OnErr r (BreaksOff made moment (view_of config old) (view_of config new))
   call_failed made moment (Ok x) cut = tt
   call_failed made moment (Err fault) cut = breaks_off made moment cut
+
+-- a call leaves its caller, which may call again after it
+pub goes_on : {T : Type 0} (config : Config) (old new : PassView) (r : Result T Fault) → MayCall config old → new.caller ≡ old.caller → new.turn ≡ length (turns_of new.calls)
+    → (IsErrOf r HistoryFull → (view_of config new).is_full) → GoesOn (view_of config old) (view_of config new) r
+goes_on config old new r may same turn full = record {
+  same = record { caller = same; classes = λ class. (λ has. has, λ has. has) };
+  may = may_again config old new r may turn;
+  full = full;
+}
 
 -- where a class was crawled, each entry that was seen is counted as one kind
 pub crawled_kinds : (config : Config) (class : ClassNo) (before after : Sight) (who : Who) (moment : ℕ) (r : Result Histogram Fault) → IfOk r (IsCrawledBy config class before after who moment) → IfOk r AddsUp

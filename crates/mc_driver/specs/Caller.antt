@@ -1,13 +1,13 @@
 -- What a caller of a shared store knows of its calls so far, by its pass. A pass has the caller's history and what it has seen.
-use Rattle.std.specs.Prelude.{ℕ, ◌≡◌, ◌<◌, ◌≤◌, ◌+◌, List, [], ◌∷◌, Option, Some, if◌then◌else◌, nat_eq, slice_get, length}
+use Rattle.std.specs.Prelude.{ℕ, ◌≡◌, ◌<◌, ◌≤◌, ◌+◌, ◌⊎◌, List, [], ◌∷◌, Option, Some, if◌then◌else◌, nat_eq, slice_get, length}
 use Rattle.mc_item.specs.declared.{config.Config.Config, call_event.CallEvent.CallEvent, stripe_event.Did.Did, stripe_event.StripeEvent.StripeEvent}
 use Rattle.mc_item.specs.declared.call_event.CallEvent.TheVariants as calls
 use Rattle.mc_item.specs.declared.stripe_event.StripeEvent.TheVariants as events
 use Rattle.mc_board.specs.declared.rule.Sight.{Sight}
 use Rattle.mc_board.specs.Histories.{list_at}
-use Rattle.mc_evidence.specs.Seen.{classes_seen, stripes_seen}
-use Rattle.mc_script.specs.Exchanges.{Begun, Exchange}
-use Rattle.mc_store.specs.{Passes.PassView, Callers.turns_of}
+use Rattle.mc_evidence.specs.{Seen.classes_seen, Seen.stripes_seen, Setting.IsClass}
+use Rattle.mc_script.specs.{Calls.CallsView, Exchanges.Begun, Exchanges.Exchange}
+use Rattle.mc_store.specs.{Passes.PassView, Callers.turns_of, Locked.setting_of, Serving.HasSeenShort}
 use Rattle.mc_driver.specs.{Called.AreInTurn, Called.turns_for, Noted.exchange_of, Stand.Histories, Stand.Stand, Stand.calls_at, Stand.nothing_seen}
 
 -- the histories of a store, as far as a token has seen them
@@ -57,3 +57,14 @@ pub record AreNoted (config : Config) (pass : PassView) (calls : List Exchange) 
 pub record MayCall (config : Config) (pass : PassView) : Type 0 where
   pub some : 0 < config.stripes
   pub turns : length (turns_of pass.calls) ≡ pass.turn
+
+-- what a script's contracts see of a caller by its pass: a history is full if the pass saw a full one, or has all calls that it may
+abbrev pub view_of : Config → PassView → CallsView
+view_of config pass = record {
+  caller = pass.caller;
+  turn = pass.turn;
+  notes = AreNoted config pass;
+  has_class = IsClass (setting_of config);
+  may_call = MayCall config pass;
+  is_full = HasSeenShort config pass.sight ⊎ (config.max_events ≤ length (turns_of pass.calls));
+}

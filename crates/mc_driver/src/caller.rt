@@ -32,27 +32,9 @@ impl<'a, N: Named> Caller<'a, N> {
 }
 
 impl<'a, N: Named> Calls for Caller<'a, N> {
-    ghost use Rattle.mc_item.specs.declared.config.Config.{Config};
-    ghost use Rattle.mc_evidence.specs.Setting.{IsClass};
-    ghost use Rattle.std.specs.Prelude.{◌≤◌, ◌⊎◌, length};
-    ghost use Rattle.mc_store.specs.{Callers.turns_of, Locked.setting_of, Serving.HasSeenShort};
-    ghost use Rattle.mc_driver.specs.Caller.{AreNoted, MayCall};
+    ghost use Rattle.mc_driver.specs.Caller.{view_of};
 
-    ghost Place = { Config };
-
-    ghost place = { λ s. N.config };
-
-    ghost has_class = { λ config class. IsClass (setting_of config) class };
-
-    ghost caller = { λ s. s.pass.caller };
-
-    ghost turn = { λ s. s.pass.turn };
-
-    ghost notes = { λ s. AreNoted N.config s.pass };
-
-    ghost is_full = { λ s. HasSeenShort N.config s.pass.sight ⊎ (N.config.max_events ≤ length (turns_of s.pass.calls)) };
-
-    ghost may_call = { λ s. MayCall N.config s.pass };
+    ghost view = { λ s. view_of N.config s.pass };
 
     fn command(&mut self, rt: &impl Wait, command: Command, moment: u64) -> Result<Reply, Fault> {
         self.store

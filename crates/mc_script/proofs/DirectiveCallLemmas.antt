@@ -3,9 +3,9 @@ use Rattle.std.proofs.Common.{◌≡◌, ◌+◌, ◌-◌, ◌<◌, ℕ, zero, s
 use Rattle.std.proofs.lemmas.List.{map-append}
 use Rattle.mc_item.specs.declared.{fault.Fault.Fault, item.ClassNo.ClassNo}
 use Rattle.mc_proto.specs.Answers.{Answer}
-use Rattle.mc_script.specs.{Calls.AddsCalls, Calls.Breaks, Calls.BreaksOff, Calls.MakesCalls, Calls.Notes, Calls.SumsUp, Script.classes_from}
-use Rattle.mc_script.specs.Exchanges.{ScriptCall, IsOfKind, exchange}
-use Rattle.mc_script.proofs.MadeCallLemmas.{breaks_first, breaks_later, makes_both, makes_one}
+use Rattle.mc_script.specs.{Calls.Breaks, Calls.BreaksOff, Calls.CallsView, Calls.MakesCalls, Calls.SumsUp, Script.classes_from}
+use Rattle.mc_script.specs.Exchanges.{ScriptCall}
+use Rattle.mc_script.proofs.MadeCallLemmas.{breaks_first, breaks_later, makes_both}
 
 -- classes from one on, and those behind them
 classes_from-append : (first n m : ℕ) → classes_from first (n + m) ≡ classes_from first n ++ classes_from (first + n) m
@@ -29,30 +29,22 @@ classes_from-split first n all below =
     let is : all ≡ n + suc (all - (n + 1)) = omega arith in
     ap (classes_from first) is ∙ classes_from-append first n (suc (all - (n + 1)))
 
--- the call of one class more was made
-pub class_more : {S : Type 0} (call : ClassNo → ScriptCall) (sum_of : List Answer
-    → S) (first n : ℕ) (sums sums' : S) (answer : Answer) (caller caller' turn turn' turn'' moment : ℕ) (notes notes' notes'' : Notes)
-    → (so_far : SumsUp call sum_of (classes_from first n) sums caller turn turn' moment notes notes') → sums' ≡ sum_of (so_far.answers ++ answer ∷ [])
-    → caller' ≡ caller → IsOfKind (call (record { 0 = first + n })) answer
-    → AddsCalls notes' notes'' (exchange caller' turn' (call (record { 0 = first + n })) moment answer ∷ []) → turn'' ≡ turn' + 1
-    → SumsUp call sum_of (classes_from first (n + 1)) sums' caller turn turn'' moment notes notes''
-class_more call sum_of first n sums sums' answer caller caller' turn turn' turn'' moment notes notes' notes'' so_far added same kind noted next =
-    let answers = so_far.answers in
-    let one : MakesCalls (call (record { 0 = first + n }) ∷ []) (answer ∷ []) caller' turn' turn'' moment notes' notes'' =
-    makes_one (call (record { 0 = first + n })) answer caller' turn' turn'' moment notes' notes'' kind noted next in
-    let both = makes_both (map call (classes_from first n)) (call (record { 0 = first + n }) ∷ []) answers (answer ∷ []) caller caller' turn turn' turn'' moment notes notes' notes'' so_far.makes same one in
-    let same_calls : map call (classes_from first n) ++ call (record { 0 = first + n }) ∷ [] ≡ map call (classes_from first (n + 1)) =
-    sym (ap (map call) (classes_from-push first n) ∙ map-append call (classes_from first n) (record { 0 = first + n } ∷ [])) in
-    record { answers = answers ++ answer ∷ []; added = added; makes = subst (λ (cs : List ScriptCall). MakesCalls cs (so_far.answers ++ answer ∷ []) caller turn turn'' moment notes notes'') same_calls both }
+module _ {S : Type 0} {call : ClassNo → ScriptCall} {sum_of : List Answer → S} {moment : ℕ} {sums : S} {a b c : CallsView} (first n : ℕ) where
+  -- the call of one class more was made
+  pub class_more : {sums' : S} {answer : Answer} (so_far : SumsUp call sum_of (classes_from first n) sums moment a b)
+      → MakesCalls (call (record { 0 = first + n }) ∷ []) (answer ∷ []) moment b c → sums' ≡ sum_of (so_far.answers ++ answer ∷ []) → SumsUp call sum_of (classes_from first (n + 1)) sums' moment a c
+  class_more {answer = answer} so_far one added = record {
+    answers = so_far.answers ++ answer ∷ [];
+    added = added;
+    makes = subst (λ (cs : List ScriptCall). MakesCalls cs (so_far.answers ++ answer ∷ []) moment a c)
+        (sym (ap (map call) (classes_from-push first n) ∙ map-append call (classes_from first n) (record { 0 = first + n } ∷ []))) (makes_both so_far.makes one);
+  }
 
--- the call of a class failed behind those of others
-pub class_fails : {S : Type 0} (call : ClassNo → ScriptCall) (sum_of : List Answer → S) (first n all : ℕ) (fault : Fault) (sums : S) (caller caller' turn turn' moment : ℕ) (notes notes' notes'' : Notes)
-    → n < all → SumsUp call sum_of (classes_from first n) sums caller turn turn' moment notes notes' → caller' ≡ caller → BreaksOff notes' notes'' (call (record { 0 = first + n })) moment
-    → Breaks fault (map call (classes_from first all)) caller turn moment notes notes''
-class_fails call sum_of first n all fault sums caller caller' turn turn' moment notes notes' notes'' below so_far same off =
-    let here = call (record { 0 = first + n }) in
-    let later = map call (classes_from (first + n + 1) (all - (n + 1))) in
-    let made = breaks_later fault (map call (classes_from first n)) (here ∷ []) later so_far.answers caller caller' turn turn' moment notes notes' notes'' so_far.makes same
-    (breaks_first fault here [] caller' turn' moment notes' notes'' off) in
-    subst (λ (cs : List ScriptCall). Breaks fault cs caller turn moment notes notes'')
-    (sym (ap (map call) (classes_from-split first n all below) ∙ map-append call (classes_from first n) (record { 0 = first + n } ∷ classes_from (first + n + 1) (all - (n + 1))))) made
+  -- the call of a class failed behind those of others
+  pub class_fails : {fault : Fault} {all : ℕ} → n < all → SumsUp call sum_of (classes_from first n) sums moment a b → BreaksOff (call (record { 0 = first + n })) moment b c
+      → Breaks fault (map call (classes_from first all)) moment a c
+  class_fails {fault = fault} {all = all} below so_far off =
+      let later = classes_from (first + n + 1) (all - (n + 1)) in
+      subst (λ (cs : List ScriptCall). Breaks fault cs moment a c)
+      (sym (ap (map call) (classes_from-split first n all below) ∙ map-append call (classes_from first n) (record { 0 = first + n } ∷ later)))
+      (breaks_later (map call later) so_far.makes (breaks_first {calls = []} off))

@@ -1,5 +1,6 @@
 pub mod IterLemmas
 pub mod MadeCallLemmas
+pub mod KeyLemmas
 pub mod DirectiveCallLemmas
 pub mod SumLemmas
 pub mod ProgressLemmas

@@ -1,14 +1,22 @@
--- Calls that were made, one behind the other, and a get, key by key.
-use Rattle.std.proofs.Common.{◌≡◌, ◌+◌, ◌≤◌, ℕ, zero, suc, List, [], ◌∷◌, ◌++◌, refl, sym, ap, ◌∙◌, append_assoc, append-nil, length, arith, Bool, length-append, map, take, drop, subst}
-use Rattle.std.specs.Prelude.{Option, None, Some, ℤ}
-use Rattle.std.proofs.lemmas.List.{map-append}
-use Rattle.mc_item.specs.declared.{fault.Fault.Fault, reply.Reply.Reply}
+-- Calls that were made, one behind the other.
+use Rattle.std.proofs.Common.{◌≡◌, ◌+◌, ◌≤◌, ℕ, zero, suc, List, [], ◌∷◌, ◌++◌, refl, sym, ap, ◌∙◌, append_assoc, append-nil, length, arith, length-append, drop, subst}
+use Rattle.std.specs.Prelude.{Option, None, Some}
+use Rattle.mc_item.specs.declared.{fault.Fault.Fault}
 use Rattle.mc_item.specs.declared.fault.Fault.TheVariants as faults
-use Rattle.mc_proto.specs.{Answers.Answer, Answers.Replied, Answers.replies_of, Answers.text_of, Text.end_text, Text.value_text, Text.values_text}
-use Rattle.mc_proto.specs.declared.request.Limits.{Limits}
-use Rattle.mc_script.specs.Calls.{AddsCalls, Answers, AnswersKey, AreCutOff, Begins, Breaks, BreaksOff, Fails, FailsKey, IsPart, MakesCalls, Notes, reading_command, reading_request}
-use Rattle.mc_script.specs.Exchanges.{AreAnswers, Asks, Begun, ScriptCall, Exchange, IsOfKind, MayBegin, exchange, exchanges}
-use Rattle.mc_script.specs.Script.{calls_of}
+use Rattle.mc_proto.specs.{Answers.Answer}
+use Rattle.mc_script.specs.Calls.{AddsCalls, AreCutOff, Breaks, BreaksOff, CallsView, IsPart, IsSameCaller, MakesCalls, Notes}
+use Rattle.mc_script.specs.Exchanges.{AreAnswers, Begun, ScriptCall, Exchange, MayBegin, exchange, exchanges}
+
+-- the same caller
+pub same_itself : (now : CallsView) → IsSameCaller now now
+same_itself now = record { caller = refl; classes = λ class. (λ has. has, λ has. has) }
+
+-- the same caller after two steps
+pub same_both : {a b c : CallsView} → IsSameCaller a b → IsSameCaller b c → IsSameCaller a c
+same_both first second = record {
+  caller = second.caller ∙ first.caller;
+  classes = λ class. (λ has. (second.classes class).0 ((first.classes class).0 has), λ has. (first.classes class).1 ((second.classes class).1 has));
+}
 
 -- nothing was added
 pub adds_none : (notes : Notes) → AddsCalls notes notes []
@@ -70,22 +78,22 @@ AreAnswers-front (c ∷ cs) others [] are = tt
 AreAnswers-front (c ∷ cs) others (a ∷ bs) are = (are.0, AreAnswers-front cs others bs are.1)
 
 -- no calls were made
-pub makes_none : (caller turn moment : ℕ) (notes : Notes) → MakesCalls [] [] caller turn turn moment notes notes
-makes_none caller turn moment notes = record { long = refl; kinds = tt; noted = adds_none notes; turns = omega arith }
+pub makes_none : {moment : ℕ} (now : CallsView) → MakesCalls [] [] moment now now
+makes_none now = record { long = refl; kinds = tt; noted = adds_none now.notes; turns = omega arith; caller = refl }
 
 -- some calls were made, and then others
-pub makes_both : (calls others : List ScriptCall) (answers more : List Answer) (caller caller' turn turn' turn'' moment : ℕ) (notes notes' notes'' : Notes)
-    → MakesCalls calls answers caller turn turn' moment notes notes' → caller' ≡ caller → MakesCalls others more caller' turn' turn'' moment notes' notes''
-    → MakesCalls (calls ++ others) (answers ++ more) caller turn turn'' moment notes notes''
-makes_both calls others answers more caller caller' turn turn' turn'' moment notes notes' notes'' first same second = record {
+pub makes_both : {calls others : List ScriptCall} {answers more : List Answer} {moment : ℕ} {a b c : CallsView}
+    → MakesCalls calls answers moment a b → MakesCalls others more moment b c → MakesCalls (calls ++ others) (answers ++ more) moment a c
+makes_both {calls = calls} {others = others} {answers = answers} {more = more} {moment = moment} {a = a} {b = b} {c = c} first second = record {
   long = omega (arith, first.long, second.long, length-append answers more, length-append calls others);
   kinds = AreAnswers-append calls others answers more first.long first.kinds second.kinds;
-  noted = adds_same notes notes'' _ _
-      (ap (λ (n : ℕ). exchanges caller turn moment calls answers ++ exchanges n turn' moment others more) same
-      ∙ ap (λ (n : ℕ). exchanges caller turn moment calls answers ++ exchanges caller n moment others more) first.turns
-      ∙ sym (exchanges-append caller turn moment calls others answers more first.long))
-      (adds_both notes notes' notes'' (exchanges caller turn moment calls answers) (exchanges caller' turn' moment others more) first.noted second.noted);
+  noted = adds_same a.notes c.notes _ _
+      (ap (λ (n : ℕ). exchanges a.caller a.turn moment calls answers ++ exchanges n b.turn moment others more) first.caller
+      ∙ ap (λ (n : ℕ). exchanges a.caller a.turn moment calls answers ++ exchanges a.caller n moment others more) first.turns
+      ∙ sym (exchanges-append a.caller a.turn moment calls others answers more first.long))
+      (adds_both a.notes b.notes c.notes _ _ first.noted second.noted);
   turns = omega (arith, first.turns, second.turns, length-append calls others);
+  caller = second.caller ∙ first.caller;
 }
 
 -- a part of some is a part of more
@@ -114,10 +122,10 @@ drop_both (c ∷ cs) others [] more long = absurd (omega arith)
 drop_both (c ∷ cs) others (a ∷ bs) more long = drop_both cs others bs more (omega arith)
 
 -- some calls were made, and then the later ones were cut off
-cut_later : (fault : Fault) (calls others further : List ScriptCall) (answers : List Answer) (caller turn turn' moment : ℕ) (before : List Exchange) (notes notes' notes'' : Notes)
-    → MakesCalls calls answers caller turn turn' moment notes notes' → AreCutOff fault others caller turn' moment (before ++ exchanges caller turn moment calls answers) notes''
-    → AreCutOff fault (calls ++ (others ++ further)) caller turn moment before notes''
-cut_later fault calls others further answers caller turn turn' moment before notes notes' notes'' first second =
+cut_later : (fault : Fault) (calls others further : List ScriptCall) (answers : List Answer) (moment : ℕ) (before : List Exchange) (a b c : CallsView)
+    → MakesCalls calls answers moment a b → AreCutOff fault others a.caller b.turn moment (before ++ exchanges a.caller a.turn moment calls answers) c.notes
+    → AreCutOff fault (calls ++ (others ++ further)) a.caller a.turn moment before c.notes
+cut_later fault calls others further answers moment before a b c first second =
     let long : length (calls ++ (others ++ further)) ≡ length calls + (length others + length further) =
     omega (arith, length-append calls (others ++ further), length-append others further) in
     record {
@@ -128,37 +136,31 @@ cut_later fault calls others further answers caller turn turn' moment before not
       begun = second.begun;
       next = subst (λ (cs : List ScriptCall). MayBegin second.begun cs moment) (drop_both calls (others ++ further) answers second.answers first.long)
           (may_begin_front second.begun (length second.answers) others further moment second.next);
-      noted = subst (λ (t : List Exchange). notes'' t second.begun)
-          (append_assoc before (exchanges caller turn moment calls answers) (exchanges caller turn' moment others second.answers)
-          ∙ ap (λ (t : List Exchange). before ++ (exchanges caller turn moment calls answers ++ t))
-          (ap (λ (n : ℕ). exchanges caller n moment others second.answers) first.turns
-          ∙ exchanges-front caller (turn + length calls) moment others further second.answers (part_few fault (length second.answers) (length others) second.part))
-          ∙ ap (λ (t : List Exchange). before ++ t) (sym (exchanges-append caller turn moment calls (others ++ further) answers second.answers first.long)))
+      noted = subst (λ (t : List Exchange). c.notes t second.begun)
+          (append_assoc before (exchanges a.caller a.turn moment calls answers) (exchanges a.caller b.turn moment others second.answers)
+          ∙ ap (λ (t : List Exchange). before ++ (exchanges a.caller a.turn moment calls answers ++ t))
+          (ap (λ (n : ℕ). exchanges a.caller n moment others second.answers) first.turns
+          ∙ exchanges-front a.caller (a.turn + length calls) moment others further second.answers (part_few fault (length second.answers) (length others) second.part))
+          ∙ ap (λ (t : List Exchange). before ++ t) (sym (exchanges-append a.caller a.turn moment calls (others ++ further) answers second.answers first.long)))
           second.noted;
     }
 
 -- some calls were made, and then one failed of those behind them
-pub breaks_later : (fault : Fault) (calls others further : List ScriptCall) (answers : List Answer) (caller caller' turn turn' moment : ℕ) (notes notes' notes'' : Notes)
-    → MakesCalls calls answers caller turn turn' moment notes notes' → caller' ≡ caller → Breaks fault others caller' turn' moment notes' notes''
-    → Breaks fault (calls ++ (others ++ further)) caller turn moment notes notes''
-breaks_later fault calls others further answers caller caller' turn turn' moment notes notes' notes'' first same second =
-    let second' = subst (λ (n : ℕ). Breaks fault others n turn' moment notes' notes'') same second in
-    record {
-      at = λ before by. cut_later fault calls others further answers caller turn turn' moment before notes notes' notes'' first
-          (second'.at (before ++ exchanges caller turn moment calls answers) (first.noted.at before by));
-    }
-
--- all calls were made, and then there was no memory for the text
-pub breaks_end : (calls : List ScriptCall) (answers : List Answer) (caller turn turn' moment : ℕ) (notes notes' : Notes)
-    → MakesCalls calls answers caller turn turn' moment notes notes' → Breaks faults.NoMemory calls caller turn moment notes notes'
-breaks_end calls answers caller turn turn' moment notes notes' all = record {
-  at = λ before by. record { answers = answers; part = omega (arith, all.long); kinds = all.kinds; begun = None; next = tt; noted = all.noted.at before by };
+pub breaks_later : {fault : Fault} {calls others : List ScriptCall} {answers : List Answer} {moment : ℕ} {a b c : CallsView} (further : List ScriptCall)
+    → MakesCalls calls answers moment a b → Breaks fault others moment b c → Breaks fault (calls ++ (others ++ further)) moment a c
+breaks_later {fault = fault} {calls = calls} {others = others} {answers = answers} {moment = moment} {a = a} {b = b} {c = c} further first second = record {
+  at = λ before by.
+      let all = before ++ exchanges a.caller a.turn moment calls answers in
+      cut_later fault calls others further answers moment before a b c first
+      (subst (λ (n : ℕ). AreCutOff fault others n b.turn moment all c.notes) first.caller (second.at all (first.noted.at before by)));
 }
 
--- one call was made
-pub makes_one : (call : ScriptCall) (answer : Answer) (caller turn turn' moment : ℕ) (notes notes' : Notes) → IsOfKind call answer
-    → AddsCalls notes notes' (exchange caller turn call moment answer ∷ []) → turn' ≡ turn + 1 → MakesCalls (call ∷ []) (answer ∷ []) caller turn turn' moment notes notes'
-makes_one call answer caller turn turn' moment notes notes' kind noted next = record { long = refl; kinds = (kind, tt); noted = noted; turns = next }
+-- all calls were made, and then there was no memory for the text
+pub breaks_end : {calls : List ScriptCall} {answers : List Answer} {moment : ℕ} {a b : CallsView} → MakesCalls calls answers moment a b
+    → Breaks faults.NoMemory calls moment a b
+breaks_end {answers = answers} all = record {
+  at = λ before by. record { answers = answers; part = omega (arith, all.long); kinds = all.kinds; begun = None; next = tt; noted = all.noted.at before by };
+}
 
 -- no call is a part of one call and more
 part_first : (fault : Fault) (more : ℕ) → IsPart fault 0 (suc more)
@@ -166,144 +168,33 @@ part_first faults.NoMemory more = omega arith
 part_first faults.HistoryFull more = omega arith
 
 -- the first call failed
-pub breaks_first : (fault : Fault) (call : ScriptCall) (calls : List ScriptCall) (caller turn moment : ℕ) (notes notes' : Notes)
-    → BreaksOff notes notes' call moment → Breaks fault (call ∷ calls) caller turn moment notes notes'
-breaks_first fault call calls caller turn moment notes notes' off = record {
+pub breaks_first : {fault : Fault} {call : ScriptCall} {calls : List ScriptCall} {moment : ℕ} {a b : CallsView} → BreaksOff call moment a b
+    → Breaks fault (call ∷ calls) moment a b
+breaks_first {fault = fault} {call = call} {calls = calls} {moment = moment} {b = b} off = record {
   at = λ before by.
-      let b = off.at before by in
+      let o = off.at before by in
       record {
         answers = [];
         part = part_first fault (length calls);
         kinds = tt;
-        begun = b.0;
-        next = may_begin_front b.0 0 (call ∷ []) calls moment b.1;
-        noted = subst (λ (t : List Exchange). notes' t b.0) (sym (append-nil before)) b.2;
+        begun = o.0;
+        next = may_begin_front o.0 0 (call ∷ []) calls moment o.1;
+        noted = subst (λ (t : List Exchange). b.notes t o.0) (sym (append-nil before)) o.2;
       };
 }
 
+-- no call was made of those to come
+pub cut_none : {calls : List ScriptCall} {caller turn moment : ℕ} {notes : Notes} (before : List Exchange) → notes before None
+    → AreCutOff faults.NoMemory calls caller turn moment before notes
+cut_none {calls = calls} {caller = caller} {turn = turn} {moment = moment} {notes = notes} before by = record {
+  answers = [];
+  part = omega arith;
+  kinds = AreAnswers-none calls;
+  begun = None;
+  next = tt;
+  noted = subst (λ (t : List Exchange). notes t None) (sym (append-nil before) ∙ ap (λ (t : List Exchange). before ++ t) (sym (exchanges-none caller turn moment calls))) by;
+}
+
 -- no call was made, and then there was no memory for the text
-pub breaks_none : (calls : List ScriptCall) (caller turn moment : ℕ) (notes : Notes) → Breaks faults.NoMemory calls caller turn moment notes notes
-breaks_none calls caller turn moment notes = record {
-  at = λ before by. record {
-    answers = [];
-    part = omega arith;
-    kinds = AreAnswers-none calls;
-    begun = None;
-    next = tt;
-    noted = subst (λ (t : List Exchange). notes t None) (sym (append-nil before) ∙ ap (λ (t : List Exchange). before ++ t) (sym (exchanges-none caller turn moment calls))) by;
-  };
-}
-
--- one key more is printed last
-pub values_text-push : (with_cas : Bool) (keys : List (List ℕ)) (replies : List Reply) (key : List ℕ) (reply : Reply) → length replies ≡ length keys
-    → values_text with_cas (keys ++ key ∷ []) (replies ++ reply ∷ []) ≡ values_text with_cas keys replies ++ value_text key reply with_cas
-values_text-push with_cas [] [] key reply long = append-nil (value_text key reply with_cas)
-values_text-push with_cas [] (r ∷ rs) key reply long = absurd (omega arith)
-values_text-push with_cas (k ∷ ks) [] key reply long = absurd (omega arith)
-values_text-push with_cas (k ∷ ks) (r ∷ rs) key reply long =
-    ap (λ (t : List ℕ). value_text k r with_cas ++ t) (values_text-push with_cas ks rs key reply (omega arith))
-    ∙ sym (append_assoc (value_text k r with_cas) (values_text with_cas ks rs) (value_text key reply with_cas))
-
--- a text begins with itself
-pub begins_itself : (a : List ℕ) → Begins a a
-begins_itself [] = refl
-begins_itself (x ∷ a) = ap (λ (t : List ℕ). x ∷ t) (begins_itself a)
-
--- a text that begins with one that begins with another
-pub begins_further : (a b c : List ℕ) → Begins a b → Begins b c → Begins a c
-begins_further [] b c first second = refl
-begins_further (x ∷ a) [] c first second = cc
-begins_further (x ∷ a) (y ∷ b) [] first second = cc
-begins_further (x ∷ a) (y ∷ b) (z ∷ c) first second =
-    let heads : y ≡ x = cc in
-    let others : z ≡ y = cc in
-    let front : take (length a) b ≡ a = cc in
-    let rest : take (length b) c ≡ b = cc in
-    let more : take (length a) c ≡ a = begins_further a b c front rest in
-    cc
-
--- the call of a key
-abbrev asks : Option ℤ → List ℕ → ScriptCall
-asks exptime key = Asks (reading_command exptime key)
-
--- the calls of the request that reads keys
-calls_read : (limits : Limits) (exptime : Option ℤ) (keys : List (List ℕ)) (with_cas : Bool) → calls_of limits (reading_request exptime keys with_cas) ≡ map (asks exptime) keys
-calls_read limits None keys with_cas = refl
-calls_read limits (Some e) keys with_cas = refl
-
--- its text
-text_read : (exptime : Option ℤ) (keys : List (List ℕ)) (with_cas : Bool) (answers : List Answer)
-    → text_of (reading_request exptime keys with_cas) answers ≡ values_text with_cas keys (replies_of answers) ++ end_text
-text_read None keys with_cas answers = refl
-text_read (Some e) keys with_cas answers = refl
-
--- replies as answers
-replies_of-map : (replies : List Reply) → replies_of (map Replied replies) ≡ replies
-replies_of-map [] = refl
-replies_of-map (r ∷ rs) = ap (λ (t : List Reply). r ∷ t) (replies_of-map rs)
-
--- so far these keys of a get or gat were answered
-pub record HasKeys (keys : List (List ℕ)) (exptime : Option ℤ) (with_cas : Bool) (caller turn turn' moment : ℕ) (notes notes' : Notes) (text text' : List ℕ) : Type 0 where
-  pub replies : List Reply
-  pub long : length replies ≡ length keys
-  pub texts : text' ≡ text ++ values_text with_cas keys replies
-  pub makes : MakesCalls (map (λ key. Asks (reading_command exptime key)) keys) (map Replied replies) caller turn turn' moment notes notes'
-
--- none yet
-pub keys_none : (exptime : Option ℤ) (with_cas : Bool) (caller turn moment : ℕ) (notes : Notes) (text : List ℕ) → HasKeys [] exptime with_cas caller turn turn moment notes notes text text
-keys_none exptime with_cas caller turn moment notes text = record {
-  replies = [];
-  long = refl;
-  texts = sym (append-nil text);
-  makes = makes_none caller turn moment notes;
-}
-
--- one key more
-pub keys_more : (keys : List (List ℕ)) (key : List ℕ) (exptime : Option ℤ) (with_cas : Bool) (caller caller' turn turn' turn'' moment : ℕ) (notes notes' notes'' : Notes) (text text' text'' : List ℕ)
-    → HasKeys keys exptime with_cas caller turn turn' moment notes notes' text text' → caller' ≡ caller
-    → AnswersKey key exptime with_cas caller' turn' turn'' moment notes' notes'' text' text''
-    → HasKeys (keys ++ key ∷ []) exptime with_cas caller turn turn'' moment notes notes'' text text''
-keys_more keys key exptime with_cas caller caller' turn turn' turn'' moment notes notes' notes'' text text' text'' so_far same by =
-    let both = makes_both (map (asks exptime) keys) (asks exptime key ∷ []) (map Replied so_far.replies) (Replied by.reply ∷ []) caller caller' turn turn' turn'' moment notes notes' notes'' so_far.makes same by.makes in
-    record {
-      replies = so_far.replies ++ by.reply ∷ [];
-      long = omega (arith, so_far.long, length-append so_far.replies (by.reply ∷ []), length-append keys (key ∷ []));
-      texts = by.texts ∙ ap (λ (t : List ℕ). t ++ value_text key by.reply with_cas) so_far.texts ∙ append_assoc text (values_text with_cas keys so_far.replies) (value_text key by.reply with_cas)
-          ∙ ap (λ (t : List ℕ). text ++ t) (sym (values_text-push with_cas keys so_far.replies key by.reply so_far.long));
-      makes = subst (λ (cs : List ScriptCall). MakesCalls cs (map Replied (so_far.replies ++ by.reply ∷ [])) caller turn turn'' moment notes notes'') (sym (map-append (asks exptime) keys (key ∷ [])))
-          (subst (λ (bs : List Answer). MakesCalls (map (asks exptime) keys ++ asks exptime key ∷ []) bs caller turn turn'' moment notes notes'') (sym (map-append Replied so_far.replies (by.reply ∷ []))) both);
-    }
-
--- all keys, and the end of the text
-pub keys_all : (all keys : List (List ℕ)) (exptime : Option ℤ) (with_cas : Bool) (caller turn turn' moment : ℕ) (notes notes' : Notes) (text text' text'' : List ℕ)
-    → all ≡ keys → HasKeys keys exptime with_cas caller turn turn' moment notes notes' text text' → text'' ≡ text' ++ end_text
-    → (limits : Limits) → Answers limits (reading_request exptime all with_cas) caller turn turn' moment notes notes' text text''
-keys_all all keys exptime with_cas caller turn turn' moment notes notes' text text' text'' whole so_far last limits =
-    let made : Answers limits (reading_request exptime keys with_cas) caller turn turn' moment notes notes' text text'' = record {
-      answers = map Replied so_far.replies;
-      texts = last ∙ ap (λ (t : List ℕ). t ++ end_text) so_far.texts ∙ append_assoc text (values_text with_cas keys so_far.replies) end_text
-          ∙ ap (λ (rs : List Reply). text ++ (values_text with_cas keys rs ++ end_text)) (sym (replies_of-map so_far.replies))
-          ∙ ap (λ (t : List ℕ). text ++ t) (sym (text_read exptime keys with_cas (map Replied so_far.replies)));
-      makes = subst (λ (cs : List ScriptCall). MakesCalls cs (map Replied so_far.replies) caller turn turn' moment notes notes') (sym (calls_read limits exptime keys with_cas)) so_far.makes;
-    } in
-    subst (λ (ks : List (List ℕ)). Answers limits (reading_request exptime ks with_cas) caller turn turn' moment notes notes' text text'') (sym whole) made
-
--- one key failed behind others
-pub keys_fail : (all keys : List (List ℕ)) (key : List ℕ) (others : List (List ℕ)) (fault : Fault) (exptime : Option ℤ) (with_cas : Bool) (caller caller' turn turn' moment : ℕ)
-    (notes notes' notes'' : Notes) (text text' : List ℕ)
-    → all ≡ keys ++ key ∷ others → HasKeys keys exptime with_cas caller turn turn' moment notes notes' text text' → caller' ≡ caller
-    → FailsKey fault key exptime caller' turn' moment notes' notes''
-    → (limits : Limits) → Fails fault limits (reading_request exptime all with_cas) caller turn moment notes notes''
-keys_fail all keys key others fault exptime with_cas caller caller' turn turn' moment notes notes' notes'' text text' split so_far same by limits =
-    let made : Breaks fault (map (asks exptime) keys ++ (asks exptime key ∷ [] ++ map (asks exptime) others)) caller turn moment notes notes'' =
-    breaks_later fault (map (asks exptime) keys) (asks exptime key ∷ []) (map (asks exptime) others) (map Replied so_far.replies) caller caller' turn turn' moment notes notes' notes'' so_far.makes same by in
-    subst (λ (ks : List (List ℕ)). Fails fault limits (reading_request exptime ks with_cas) caller turn moment notes notes'') (sym split)
-    (subst (λ (cs : List ScriptCall). Breaks fault cs caller turn moment notes notes'') (sym (calls_read limits exptime (keys ++ key ∷ others) with_cas ∙ map-append (asks exptime) keys (key ∷ others))) made)
-
--- all keys were answered, and then there was no memory for the end of the text
-pub keys_end_fails : (all keys : List (List ℕ)) (exptime : Option ℤ) (with_cas : Bool) (caller turn turn' moment : ℕ) (notes notes' : Notes) (text text' : List ℕ)
-    → all ≡ keys → HasKeys keys exptime with_cas caller turn turn' moment notes notes' text text' → (limits : Limits) → Fails faults.NoMemory limits (reading_request exptime all with_cas) caller turn moment notes notes'
-keys_end_fails all keys exptime with_cas caller turn turn' moment notes notes' text text' whole so_far limits =
-    subst (λ (ks : List (List ℕ)). Fails faults.NoMemory limits (reading_request exptime ks with_cas) caller turn moment notes notes') (sym whole)
-    (subst (λ (cs : List ScriptCall). Breaks faults.NoMemory cs caller turn moment notes notes') (sym (calls_read limits exptime keys with_cas))
-    (breaks_end (map (asks exptime) keys) (map Replied so_far.replies) caller turn turn' moment notes notes' so_far.makes))
+pub breaks_none : {calls : List ScriptCall} {moment : ℕ} (now : CallsView) → Breaks faults.NoMemory calls moment now now
+breaks_none now = record { at = λ before by. cut_none before by }

@@ -5,9 +5,10 @@ use Rattle.mc_item.specs.declared.fault.Fault.TheVariants as faults
 use Rattle.mc_proto.specs.{Answers.Answer, Answers.text_of, Grammar.IsModerate, Text.IsBeginning}
 use Rattle.mc_proto.specs.declared.{request.Limits.Limits, request.Request.Request}
 use Rattle.std.specs.Prelude.{None}
-use Rattle.mc_script.specs.{Calls.Answers, Calls.AreCutOff, Calls.Fails, Calls.Notes, Run.NoneEnds, Run.first_moment, Exchanges.Exchange, Exchanges.exchanges}
-use Rattle.mc_script.specs.Progress.{AreModerate, Goes, HasAnswered, HasFailed, HasTorn, Went}
+use Rattle.mc_script.specs.{Calls.Answers, Calls.AreCutOff, Calls.CallsView, Calls.Fails, Run.IsCutOff, Run.NoneEnds, Run.first_moment, Exchanges.Exchange, Exchanges.exchanges}
+use Rattle.mc_script.specs.Progress.{AreModerate, Goes, HasAnswered, HasFailed, HasTorn, IsProgress, Went}
 use Rattle.mc_script.specs.Script.{Answered, AreWhole, IsAnsweredWhole, all_exchanges, answered, calls_of, ends, moment_after, moment_behind, requests_of, texts_of, turn_behind}
+use Rattle.mc_script.specs.declared.scripting.Progress.{Progress}
 use Rattle.mc_script.specs.declared.scripting.Progress.TheVariants as progress
 
 -- one request more has its replies too
@@ -49,67 +50,69 @@ exchanges_at : (limits : Limits) (caller turn moment : ℕ) (before : List Answe
 exchanges_at limits caller turn moment before request answers turn_is moment_is =
     ap (λ (n : ℕ). exchanges caller n moment (calls_of limits request) answers) turn_is ∙ ap (λ (n : ℕ). exchanges caller (turn_behind limits 0 before) n (calls_of limits request) answers) moment_is
 
--- a request more was answered, and its text gathered
-pub answered_more : (limits : Limits) (before : List Answered) (start taken text text' : List ℕ) (request : Request) (notes notes' : Notes) (caller turn turn' moment moment' : ℕ)
-    → HasAnswered limits before start taken text notes caller turn moment → (by : Answers limits request caller turn turn' moment notes notes' text text') → moment' ≡ moment_after moment request
-    → HasAnswered limits (before ++ answered request by.answers ∷ []) start taken text' notes' caller turn' moment'
-answered_more limits before start taken text text' request notes notes' caller turn turn' moment moment' has by next = record {
-  whole = AreWhole-push limits before (answered request by.answers) has.whole (record { all = by.makes.long; kinds = by.makes.kinds });
-  printed = has.printed;
-  took = has.took;
-  texts = ap (λ (t : List ℕ). has.printed ++ t) by.texts ∙ sym (append_assoc has.printed text (text_of request by.answers)) ∙ ap (λ (t : List ℕ). t ++ text_of request by.answers) has.texts
-      ∙ sym (texts_of-push before (answered request by.answers));
-  notes_all = subst (λ (t : List Exchange). notes' t None)
-      (ap (λ (t : List Exchange). all_exchanges limits caller 0 first_moment before ++ t) (exchanges_at limits caller turn moment before request by.answers has.turn_is has.moment_is)
-      ∙ sym (all_exchanges-push limits caller 0 first_moment before (answered request by.answers)))
-      (by.makes.noted.at (all_exchanges limits caller 0 first_moment before) has.notes_all);
-  turn_is = by.makes.turns ∙ ap (λ (n : ℕ). n + length (calls_of limits request)) has.turn_is ∙ sym (turn_behind-push limits 0 before (answered request by.answers));
-  moment_is = next ∙ ap (λ (n : ℕ). moment_after n request) has.moment_is ∙ sym (moment_behind-push first_moment before (answered request by.answers));
-}
+-- these requests were answered, and what is said of the next one
+module _ {limits : Limits} {before : List Answered} {start taken text text' : List ℕ} {request : Request} {moment : ℕ} {old now : CallsView}
+    (has : HasAnswered limits before start taken text old moment) where
+  -- a request more was answered, and its text gathered
+  pub answered_more : {moment' : ℕ} (by : Answers limits request moment old now text text') → moment' ≡ moment_after moment request
+      → HasAnswered limits (before ++ answered request by.answers ∷ []) start taken text' now moment'
+  answered_more by next = record {
+    whole = AreWhole-push limits before (answered request by.answers) has.whole (record { all = by.makes.long; kinds = by.makes.kinds });
+    printed = has.printed;
+    took = has.took;
+    texts = ap (λ (t : List ℕ). has.printed ++ t) by.texts ∙ sym (append_assoc has.printed text (text_of request by.answers)) ∙ ap (λ (t : List ℕ). t ++ text_of request by.answers) has.texts
+        ∙ sym (texts_of-push before (answered request by.answers));
+    notes_all = subst (λ (n : ℕ). now.notes (all_exchanges limits n 0 first_moment (before ++ answered request by.answers ∷ [])) None) (sym by.makes.caller)
+        (subst (λ (t : List Exchange). now.notes t None)
+        (ap (λ (t : List Exchange). all_exchanges limits old.caller 0 first_moment before ++ t) (exchanges_at limits old.caller old.turn moment before request by.answers has.turn_is has.moment_is)
+        ∙ sym (all_exchanges-push limits old.caller 0 first_moment before (answered request by.answers)))
+        (by.makes.noted.at (all_exchanges limits old.caller 0 first_moment before) has.notes_all));
+    turn_is = by.makes.turns ∙ ap (λ (n : ℕ). n + length (calls_of limits request)) has.turn_is ∙ sym (turn_behind-push limits 0 before (answered request by.answers));
+    moment_is = next ∙ ap (λ (n : ℕ). moment_after n request) has.moment_is ∙ sym (moment_behind-push first_moment before (answered request by.answers));
+  }
 
--- a part of what is gathered was printed
-pub printed_more : (limits : Limits) (before : List Answered) (start taken text taken' text' : List ℕ) (notes : Notes) (caller turn moment : ℕ)
-    → HasAnswered limits before start taken text notes caller turn moment
-    → ((more : List ℕ) × (taken' ≡ taken ++ more) × (text ≡ more ++ text')) → HasAnswered limits before start taken' text' notes caller turn moment
-printed_more limits before start taken text taken' text' notes caller turn moment has by = record {
-  whole = has.whole;
-  printed = has.printed ++ by.0;
-  took = by.1 ∙ ap (λ (t : List ℕ). t ++ by.0) has.took ∙ append_assoc start has.printed by.0;
-  texts = append_assoc has.printed by.0 text' ∙ ap (λ (t : List ℕ). has.printed ++ t) (sym by.2) ∙ has.texts;
-  notes_all = has.notes_all;
-  turn_is = has.turn_is;
-  moment_is = has.moment_is;
-}
+  -- a request failed behind these
+  pub failed : {fault : Fault} → Fails fault limits request moment old now → now.caller ≡ old.caller → text' ≡ text → ends request ≡ false
+      → HasFailed fault limits request before start taken text' now
+  failed {fault = fault} by same kept own = record {
+    whole = has.whole;
+    printed = has.printed;
+    took = has.took;
+    texts = ap (λ (t : List ℕ). has.printed ++ t) kept ∙ has.texts;
+    own = own;
+    cut = subst (λ (n : ℕ). IsCutOff fault limits request before now.notes n) (sym same)
+        (subst (λ (n : ℕ). AreCutOff fault (calls_of limits request) old.caller (turn_behind limits 0 before) n (all_exchanges limits old.caller 0 first_moment before) now.notes) has.moment_is
+        (subst (λ (n : ℕ). AreCutOff fault (calls_of limits request) old.caller n moment (all_exchanges limits old.caller 0 first_moment before) now.notes) has.turn_is
+        (by.at (all_exchanges limits old.caller 0 first_moment before) has.notes_all)));
+  }
 
--- a request failed behind these
-pub failed : (fault : Fault) (limits : Limits) (before : List Answered) (start taken text text' : List ℕ) (request : Request) (notes notes' : Notes) (caller turn moment : ℕ)
-    → HasAnswered limits before start taken text notes caller turn moment → Fails fault limits request caller turn moment notes notes' → text' ≡ text → ends request ≡ false
-    → HasFailed fault limits request before start taken text' notes' caller
-failed fault limits before start taken text text' request notes notes' caller turn moment has by same own = record {
-  whole = has.whole;
-  printed = has.printed;
-  took = has.took;
-  texts = ap (λ (t : List ℕ). has.printed ++ t) same ∙ has.texts;
-  own = own;
-  cut = subst (λ (n : ℕ). AreCutOff fault (calls_of limits request) caller (turn_behind limits 0 before) n (all_exchanges limits caller 0 first_moment before) notes') has.moment_is
-      (subst (λ (n : ℕ). AreCutOff fault (calls_of limits request) caller n moment (all_exchanges limits caller 0 first_moment before) notes') has.turn_is
-      (by.at (all_exchanges limits caller 0 first_moment before) has.notes_all));
-}
+-- what the sink took of the texts that were gathered
+module _ {limits : Limits} {before : List Answered} {start taken text taken' : List ℕ} {moment : ℕ} {now : CallsView}
+    (has : HasAnswered limits before start taken text now moment) where
+  -- a part of what is gathered was printed
+  pub printed_more : {text' : List ℕ} → ((more : List ℕ) × (taken' ≡ taken ++ more) × (text ≡ more ++ text')) → HasAnswered limits before start taken' text' now moment
+  printed_more {text' = text'} by = record {
+    whole = has.whole;
+    printed = has.printed ++ by.0;
+    took = by.1 ∙ ap (λ (t : List ℕ). t ++ by.0) has.took ∙ append_assoc start has.printed by.0;
+    texts = append_assoc has.printed by.0 text' ∙ ap (λ (t : List ℕ). has.printed ++ t) (sym by.2) ∙ has.texts;
+    notes_all = has.notes_all;
+    turn_is = has.turn_is;
+    moment_is = has.moment_is;
+  }
 
--- the sink took only a beginning
-pub torn : (limits : Limits) (before : List Answered) (start taken text taken' : List ℕ) (notes : Notes) (caller turn moment : ℕ)
-    → HasAnswered limits before start taken text notes caller turn moment → IsBeginning taken taken' text
-    → HasTorn limits before start taken' notes caller
-torn limits before start taken text taken' notes caller turn moment has by = record {
-  whole = has.whole;
-  texts = (
-    has.printed ++ by.0,
-    by.1,
-    sym has.texts ∙ ap (λ (t : List ℕ). has.printed ++ t) by.2 ∙ sym (append_assoc has.printed by.0 by.1),
-    by.3 ∙ ap (λ (t : List ℕ). t ++ by.0) has.took ∙ append_assoc start has.printed by.0,
-  );
-  notes_all = has.notes_all;
-}
+  -- the sink took only a beginning
+  pub torn : IsBeginning taken taken' text → HasTorn limits before start taken' now
+  torn by = record {
+    whole = has.whole;
+    texts = (
+      has.printed ++ by.0,
+      by.1,
+      sym has.texts ∙ ap (λ (t : List ℕ). has.printed ++ t) by.2 ∙ sym (append_assoc has.printed by.0 by.1),
+      by.3 ∙ ap (λ (t : List ℕ). t ++ by.0) has.took ∙ append_assoc start has.printed by.0,
+    );
+    notes_all = has.notes_all;
+  }
 
 -- a request among others
 pub moderate_among : (limits : Limits) (front : List Request) (request : Request) (back : List Request) → AreModerate limits (front ++ request ∷ back) → IsModerate limits request
@@ -122,109 +125,59 @@ NoneEnds-push [] request before not = (not, tt)
 NoneEnds-push (r ∷ rs) request before not = (before.0, NoneEnds-push rs request before.1 not)
 
 -- nothing was answered yet
-pub went_none : (limits : Limits) (before : List Answered) (start taken text : List ℕ) (notes : Notes) (caller turn moment : ℕ) → HasAnswered limits before start taken text notes caller turn moment
-    → Went limits [] before start taken text notes caller turn moment
-went_none limits before start taken text notes caller turn moment has = record {
+pub went_none : {limits : Limits} {before : List Answered} {start taken text : List ℕ} {now : CallsView} {moment : ℕ}
+    → HasAnswered limits before start taken text now moment → Went limits [] before start taken text now moment
+went_none {limits = limits} {before = before} {start = start} {taken = taken} {text = text} {now = now} {moment = moment} has = record {
   added = [];
   asked = refl;
-  state = subst (λ (all : List Answered). HasAnswered limits all start taken text notes caller turn moment) (sym (append-nil before)) has;
+  state = subst (λ (all : List Answered). HasAnswered limits all start taken text now moment) (sym (append-nil before)) has;
 }
 
--- one request more was answered
-pub went_further : (limits : Limits) (yielded : List Request) (request : Request) (before : List Answered) (start taken text text' : List ℕ)
-    (notes notes' : Notes) (caller caller' turn turn' moment moment' : ℕ)
-    → Went limits yielded before start taken text notes caller turn moment → caller' ≡ caller → Answers limits request caller' turn turn' moment notes notes' text text' → moment' ≡ moment_after moment request
-    → Went limits (yielded ++ request ∷ []) before start taken text' notes' caller turn' moment'
-went_further limits yielded request before start taken text text' notes notes' caller caller' turn turn' moment moment' went same by next =
-    let by' = subst (λ (n : ℕ). Answers limits request n turn turn' moment notes notes' text text') same by in
-    record {
-      added = went.added ++ answered request by'.answers ∷ [];
-      asked = requests_of-append went.added (answered request by'.answers ∷ []) ∙ ap (λ (rs : List Request). rs ++ request ∷ []) went.asked;
-      state = subst (λ (all : List Answered). HasAnswered limits all start taken text' notes' caller turn' moment') (append_assoc before went.added (answered request by'.answers ∷ []))
-          (answered_more limits (before ++ went.added) start taken text text' request notes notes' caller turn turn' moment moment' went.state by' next);
-    }
+-- these requests were answered, after those before
+module _ {limits : Limits} {yielded : List Request} {before : List Answered} {start taken text : List ℕ} {moment : ℕ} {now : CallsView}
+    (went : Went limits yielded before start taken text now moment) where
+  -- one request more was answered
+  pub went_further : {request : Request} {text' : List ℕ} {moment' : ℕ} {next : CallsView} → Answers limits request moment now next text text'
+      → moment' ≡ moment_after moment request → Went limits (yielded ++ request ∷ []) before start taken text' next moment'
+  went_further {request = request} {text' = text'} {moment' = moment'} {next = next} by later = record {
+    added = went.added ++ answered request by.answers ∷ [];
+    asked = requests_of-append went.added (answered request by.answers ∷ []) ∙ ap (λ (rs : List Request). rs ++ request ∷ []) went.asked;
+    state = subst (λ (all : List Answered). HasAnswered limits all start taken text' next moment') (append_assoc before went.added (answered request by.answers ∷ []))
+        (answered_more went.state by later);
+  }
 
--- and some of what is gathered was printed
-pub went_printed : (limits : Limits) (yielded : List Request) (before : List Answered) (start taken text taken' text' : List ℕ)
-    (notes : Notes) (caller turn moment : ℕ) → Went limits yielded before start taken text notes caller turn moment
-    → ((more : List ℕ) × (taken' ≡ taken ++ more) × (text ≡ more ++ text')) → Went limits yielded before start taken' text' notes caller turn moment
-went_printed limits yielded before start taken text taken' text' notes caller turn moment went by = record {
-  added = went.added;
-  asked = went.asked;
-  state = printed_more limits (before ++ went.added) start taken text taken' text' notes caller turn moment went.state by;
-}
+  -- and some of what is gathered was printed
+  pub went_printed : {taken' text' : List ℕ} → ((more : List ℕ) × (taken' ≡ taken ++ more) × (text ≡ more ++ text'))
+      → Went limits yielded before start taken' text' now moment
+  went_printed by = record { added = went.added; asked = went.asked; state = printed_more went.state by }
 
--- the script ended here
-pub goes_ended : (limits : Limits) (requests yielded : List Request) (request : Request) (rest : List Request) (before : List Answered)
-    (start taken text : List ℕ) (notes : Notes) (caller turn moment : ℕ)
-    → requests ≡ yielded ++ request ∷ rest → NoneEnds yielded → ends request ≡ true → Went limits yielded before start taken text notes caller turn moment
-    → Goes progress.Ended limits requests before start taken text notes caller turn moment
-goes_ended limits requests yielded request rest before start taken text notes caller turn moment split own last went = record {
-  front = yielded;
-  back = request ∷ rest;
-  added = went.added;
-  split = split;
-  own = own;
-  asked = went.asked;
-  state = (last, went.state);
-}
+  -- the first of these requests were answered, and none of them ends the script
+  module _ {requests : List Request} (own : NoneEnds yielded) where
+    -- with what holds of those to come
+    goes : {p : Progress} {taken' text' : List ℕ} {moment' : ℕ} {next : CallsView} (back : List Request) → requests ≡ yielded ++ back
+        → IsProgress p limits back (before ++ went.added) start taken' text' next moment' → Goes p limits requests before start taken' text' next moment'
+    goes back split state = record { front = yielded; back = back; added = went.added; split = split; own = own; asked = went.asked; state = state }
 
--- all of the requests were answered
-pub goes_more : (limits : Limits) (requests yielded : List Request) (before : List Answered) (start taken text : List ℕ) (notes : Notes) (caller turn moment : ℕ)
-    → requests ≡ yielded → NoneEnds yielded → Went limits yielded before start taken text notes caller turn moment → Goes progress.More limits requests before start taken text notes caller turn moment
-goes_more limits requests yielded before start taken text notes caller turn moment split own went = record {
-  front = yielded;
-  back = [];
-  added = went.added;
-  split = split ∙ sym (append-nil yielded);
-  own = own;
-  asked = went.asked;
-  state = (refl, went.state);
-}
+    -- all of the requests were answered
+    pub goes_more : requests ≡ yielded → Goes progress.More limits requests before start taken text now moment
+    goes_more split = goes [] (split ∙ sym (append-nil yielded)) (refl, went.state)
 
--- a request failed for want of memory
-pub goes_memory : (limits : Limits) (requests yielded : List Request) (request : Request) (rest : List Request) (before : List Answered)
-    (start taken text text' : List ℕ) (notes notes' : Notes) (caller caller' turn moment turn' moment' : ℕ)
-    → requests ≡ yielded ++ request ∷ rest → NoneEnds yielded → ends request ≡ false → Went limits yielded before start taken text notes caller turn moment
-    → caller' ≡ caller → Fails faults.NoMemory limits request caller' turn moment notes notes' → text' ≡ text → Goes progress.Memory limits requests before start taken text' notes' caller turn' moment'
-goes_memory limits requests yielded request rest before start taken text text' notes notes' caller caller' turn moment turn' moment' split own not went is by same = record {
-  front = yielded;
-  back = request ∷ rest;
-  added = went.added;
-  split = split;
-  own = own;
-  asked = went.asked;
-  state = failed faults.NoMemory limits (before ++ went.added) start taken text text' request notes notes' caller turn moment went.state
-      (subst (λ (n : ℕ). Fails faults.NoMemory limits request n turn moment notes notes') is by) same not;
-}
+    -- the sink failed
+    pub goes_torn : {taken' text' : List ℕ} {moment' : ℕ} (rest : List Request) → requests ≡ yielded ++ rest → IsBeginning taken taken' text
+        → Goes progress.Output limits requests before start taken' text' now moment'
+    goes_torn rest split by = goes rest split (torn went.state by)
 
--- a request failed since the history is full
-pub goes_full : (limits : Limits) (requests yielded : List Request) (request : Request) (rest : List Request) (before : List Answered)
-    (start taken text text' : List ℕ) (notes notes' : Notes) (caller caller' turn moment turn' moment' : ℕ)
-    → requests ≡ yielded ++ request ∷ rest → NoneEnds yielded → ends request ≡ false → Went limits yielded before start taken text notes caller turn moment
-    → caller' ≡ caller → Fails faults.HistoryFull limits request caller' turn moment notes notes' → text' ≡ text → Goes progress.Full limits requests before start taken text' notes' caller turn' moment'
-goes_full limits requests yielded request rest before start taken text text' notes notes' caller caller' turn moment turn' moment' split own not went is by same = record {
-  front = yielded;
-  back = request ∷ rest;
-  added = went.added;
-  split = split;
-  own = own;
-  asked = went.asked;
-  state = failed faults.HistoryFull limits (before ++ went.added) start taken text text' request notes notes' caller turn moment went.state
-      (subst (λ (n : ℕ). Fails faults.HistoryFull limits request n turn moment notes notes') is by) same not;
-}
+    module _ (request : Request) (rest : List Request) (split : requests ≡ yielded ++ request ∷ rest) where
+      -- the script ended here
+      pub goes_ended : ends request ≡ true → Goes progress.Ended limits requests before start taken text now moment
+      goes_ended last = goes (request ∷ rest) split (last, went.state)
 
--- or the sink failed
-pub goes_torn : (limits : Limits) (requests yielded : List Request) (request : Request) (rest : List Request) (before : List Answered)
-    (start taken text taken' text' : List ℕ) (notes : Notes) (caller turn moment turn' moment' : ℕ)
-    → requests ≡ yielded ++ request ∷ rest → NoneEnds (yielded ++ request ∷ []) → Went limits (yielded ++ request ∷ []) before start taken text notes caller turn moment
-    → IsBeginning taken taken' text → Goes progress.Output limits requests before start taken' text' notes caller turn' moment'
-goes_torn limits requests yielded request rest before start taken text taken' text' notes caller turn moment turn' moment' split own went by = record {
-  front = yielded ++ request ∷ [];
-  back = rest;
-  added = went.added;
-  split = split ∙ sym (append_assoc yielded (request ∷ []) rest);
-  own = own;
-  asked = went.asked;
-  state = torn limits (before ++ went.added) start taken text taken' notes caller turn moment went.state by;
-}
+      -- a request failed
+      module _ {text' : List ℕ} {moment' : ℕ} {next : CallsView} (not : ends request ≡ false) (same : next.caller ≡ now.caller) (kept : text' ≡ text) where
+        -- for want of memory
+        pub goes_memory : Fails faults.NoMemory limits request moment now next → Goes progress.Memory limits requests before start taken text' next moment'
+        goes_memory by = goes (request ∷ rest) split (failed went.state by same kept not)
+
+        -- since the history is full
+        pub goes_full : Fails faults.HistoryFull limits request moment now next → Goes progress.Full limits requests before start taken text' next moment'
+        goes_full by = goes (request ∷ rest) split (failed went.state by same kept not)

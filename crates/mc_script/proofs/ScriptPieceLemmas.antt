@@ -6,12 +6,12 @@ use Rattle.mc_item.specs.declared.fault.Fault.TheVariants as faults
 use Rattle.mc_proto.specs.Text.{IsBeginning}
 use Rattle.mc_proto.specs.declared.{request.Limits.Limits, request.Request.Request}
 use Rattle.mc_proto.proofs.{KeptRestLemmas.after_reads, StreamLemmas.stream_reads, StreamLemmas.reading_on}
-use Rattle.mc_script.specs.{Calls.Notes, Progress.EndsHere, Progress.FailsHere, Progress.Goes, Progress.AnswersWhole, Progress.HasAnswered, Progress.HasCome}
+use Rattle.mc_script.specs.{Calls.CallsView, Calls.Notes, Progress.EndsHere, Progress.FailsHere, Progress.Goes, Progress.AnswersWhole, Progress.HasAnswered, Progress.HasCome}
 use Rattle.mc_script.specs.Run.{HasBroken, HasEnded, HasRead, HasRun, HasStopped, MayBeCutOff, NoneEnds, first_moment}
-use Rattle.mc_script.specs.Script.{Answered, all_exchanges, calls_of, ends, moment_behind, own_requests, requests_of, texts_of, turn_behind}
+use Rattle.mc_script.specs.Script.{Answered, all_exchanges, ends, own_requests, requests_of, texts_of}
 use Rattle.mc_script.specs.declared.scripting.Progress.{Progress}
 use Rattle.mc_script.specs.declared.scripting.Progress.TheVariants as progress
-use Rattle.mc_script.proofs.{MadeCallLemmas.breaks_none, ProgressLemmas.printed_more, ProgressLemmas.requests_of-append}
+use Rattle.mc_script.proofs.{MadeCallLemmas.cut_none, ProgressLemmas.printed_more, ProgressLemmas.requests_of-append}
 
 -- requests none of which ends the script are its own, and so are those behind them
 own_requests-append : (front back : List Request) → NoneEnds front → own_requests (front ++ back) ≡ front ++ own_requests back
@@ -50,12 +50,10 @@ now_torn printed start taken text taken' texts took is by = (
 )
 
 -- no call of the next request was made
-cut_none : (limits : Limits) (back : List Request) (done : List Answered) (notes : Notes) (caller : ℕ) → notes (all_exchanges limits caller 0 first_moment done) None
+none_begun : (limits : Limits) (back : List Request) (done : List Answered) (notes : Notes) (caller : ℕ) → notes (all_exchanges limits caller 0 first_moment done) None
     → MayBeCutOff limits back done notes caller
-cut_none limits [] done notes caller all = all
-cut_none limits (r ∷ rs) done notes caller all =
-    let none = breaks_none (calls_of limits r) caller (turn_behind limits 0 done) (moment_behind first_moment done) notes in
-    (faults.NoMemory, none.at (all_exchanges limits caller 0 first_moment done) all)
+none_begun limits [] done notes caller all = all
+none_begun limits (r ∷ rs) done notes caller all = (faults.NoMemory, cut_none (all_exchanges limits caller 0 first_moment done) all)
 
 -- the requests before the one that ends the script are those in what came
 read_ended : (limits : Limits) (bytes left : List ℕ) (answered : List Answered) (back : List Request) → HasRead limits bytes left (requests_of answered ++ own_requests back) → EndsHere back
@@ -65,11 +63,11 @@ read_ended limits bytes left answered back read last =
     subst (HasRead limits bytes left) (ap (λ (t : List Request). requests_of answered ++ t) none ∙ append-nil (requests_of answered)) read
 
 -- a request failed, and the texts before it are out
-failed_stops : (fault : Fault) (limits : Limits) (bytes left start taken text taken' : List ℕ) (notes : Notes) (caller : ℕ) (done : List Answered) (back : List Request)
-    → HasRead limits bytes left (requests_of done ++ own_requests back) → FailsHere fault limits back done start taken text notes caller
-    → taken' ≡ taken ++ text → HasStopped fault limits bytes left start taken' notes caller
-failed_stops fault limits bytes left start taken text taken' notes caller done [] read has out = absurd has
-failed_stops fault limits bytes left start taken text taken' notes caller done (r ∷ rs) read has out = record {
+failed_stops : (fault : Fault) (limits : Limits) (bytes left start taken text taken' : List ℕ) (now : CallsView) (done : List Answered) (back : List Request)
+    → HasRead limits bytes left (requests_of done ++ own_requests back) → FailsHere fault limits back done start taken text now
+    → taken' ≡ taken ++ text → HasStopped fault limits bytes left start taken' now.notes now.caller
+failed_stops fault limits bytes left start taken text taken' now done [] read has out = absurd has
+failed_stops fault limits bytes left start taken text taken' now done (r ∷ rs) read has out = record {
   answered = done;
   request = r;
   back = own_requests rs;
@@ -80,11 +78,11 @@ failed_stops fault limits bytes left start taken text taken' notes caller done (
 }
 
 -- a request failed, and then the sink
-failed_breaks : (fault : Fault) (limits : Limits) (bytes left start taken text taken' : List ℕ) (notes : Notes) (caller : ℕ) (done : List Answered) (back : List Request)
-    → HasRead limits bytes left (requests_of done ++ own_requests back) → FailsHere fault limits back done start taken text notes caller
-    → IsBeginning taken taken' text → HasBroken limits bytes left start taken' notes caller
-failed_breaks fault limits bytes left start taken text taken' notes caller done [] read has by = absurd has
-failed_breaks fault limits bytes left start taken text taken' notes caller done (r ∷ rs) read has by = record {
+failed_breaks : (fault : Fault) (limits : Limits) (bytes left start taken text taken' : List ℕ) (now : CallsView) (done : List Answered) (back : List Request)
+    → HasRead limits bytes left (requests_of done ++ own_requests back) → FailsHere fault limits back done start taken text now
+    → IsBeginning taken taken' text → HasBroken limits bytes left start taken' now.notes now.caller
+failed_breaks fault limits bytes left start taken text taken' now done [] read has by = absurd has
+failed_breaks fault limits bytes left start taken text taken' now done (r ∷ rs) read has by = record {
   answered = done;
   back = r ∷ own_requests rs;
   read = subst (λ (t : List Request). HasRead limits bytes left (requests_of done ++ t)) (own_requests-one r rs has.own) read;
@@ -94,36 +92,36 @@ failed_breaks fault limits bytes left start taken text taken' notes caller done 
 }
 
 -- requests were answered, and then the sink failed
-answered_breaks : (limits : Limits) (bytes left start taken text taken' : List ℕ) (notes : Notes) (caller turn moment : ℕ) (done : List Answered) (back : List Request)
-    → HasRead limits bytes left (requests_of done ++ own_requests back) → HasAnswered limits done start taken text notes caller turn moment
-    → IsBeginning taken taken' text → HasBroken limits bytes left start taken' notes caller
-answered_breaks limits bytes left start taken text taken' notes caller turn moment done back read has by = record {
+answered_breaks : (limits : Limits) (bytes left start taken text taken' : List ℕ) (now : CallsView) (moment : ℕ) (done : List Answered) (back : List Request)
+    → HasRead limits bytes left (requests_of done ++ own_requests back) → HasAnswered limits done start taken text now moment
+    → IsBeginning taken taken' text → HasBroken limits bytes left start taken' now.notes now.caller
+answered_breaks limits bytes left start taken text taken' now moment done back read has by = record {
   answered = done;
   back = own_requests back;
   read = read;
   whole = has.whole;
   texts = now_torn has.printed start taken text taken' (texts_of done) has.took has.texts by;
-  calls = cut_none limits (own_requests back) done notes caller has.notes_all;
+  calls = none_begun limits (own_requests back) done now.notes now.caller has.notes_all;
 }
 
 -- all requests of a piece were answered, and the script goes on
-pub piece_goes_on : {limits : Limits} {start taken text taken' text' : List ℕ} {notes : Notes} {caller turn moment : ℕ} {done : List Answered} {added : List Request}
-    → Goes progress.More limits added done start taken text notes caller turn moment → taken' ≡ taken ++ text → text' ≡ [] → AnswersWhole limits start taken' text' notes caller turn moment done added
+pub piece_goes_on : {limits : Limits} {start taken text taken' text' : List ℕ} {now : CallsView} {moment : ℕ} {done : List Answered} {added : List Request}
+    → Goes progress.More limits added done start taken text now moment → taken' ≡ taken ++ text → text' ≡ [] → AnswersWhole limits start taken' text' now moment done added
 piece_goes_on {limits = limits} {start = start} {taken = taken} {text = text} {done = done} g out none =
     let all = g.split ∙ ap (λ (t : List Request). g.front ++ t) g.state.0 ∙ append-nil g.front in
     record {
       own = subst NoneEnds (sym all) g.own;
       out = none;
-      now = done ++ g.added;
+      all = done ++ g.added;
       asked = requests_of-append done g.added ∙ ap (λ (t : List Request). requests_of done ++ t) (g.asked ∙ sym all);
-      state_of = printed_more limits (done ++ g.added) start taken text _ _ _ _ _ _ g.state.1 (text, out, sym (append-nil text) ∙ ap (λ (t : List ℕ). text ++ t) (sym none));
+      state_of = printed_more g.state.1 (text, out, sym (append-nil text) ∙ ap (λ (t : List ℕ). text ++ t) (sym none));
     }
 
 -- a piece came, and its requests were answered up to some progress, whatever is still left
-module _ {limits : Limits} {came start taken text : List ℕ} {notes : Notes} {caller turn moment : ℕ} {done : List Answered} {added : List Request}
+module _ {limits : Limits} {came start taken text : List ℕ} {now : CallsView} {moment : ℕ} {done : List Answered} {added : List Request}
     (come : HasCome limits came done added) (left : List ℕ) where
   -- what was read, where the first of these requests were answered
-  come_read : {p : Progress} (g : Goes p limits added done start taken text notes caller turn moment)
+  come_read : {p : Progress} (g : Goes p limits added done start taken text now moment)
       → HasRead limits (came ++ left) left (requests_of (done ++ g.added) ++ own_requests g.back)
   come_read g =
       let read = after_reads limits come.state come.unread came (come.requests ++ added) come.after in
@@ -141,8 +139,8 @@ module _ {limits : Limits} {came start taken text : List ℕ} {notes : Notes} {c
       }
 
   -- all requests before the one that ends the script were answered
-  abbrev piece_runs : {taken' : List ℕ} → Goes progress.Ended limits added done start taken text notes caller turn moment → taken' ≡ taken ++ text
-      → HasRun limits (came ++ left) start taken' notes caller
+  abbrev piece_runs : {taken' : List ℕ} → Goes progress.Ended limits added done start taken text now moment → taken' ≡ taken ++ text
+      → HasRun limits (came ++ left) start taken' now.notes now.caller
   piece_runs {taken' = taken'} g out =
       let whole = stream_reads limits (came ++ left) in
       let on = reading_on limits came left come.after.rest whole.1 (come.requests ++ added) whole.0 come.after.spelt whole.2 in
@@ -163,36 +161,36 @@ module _ {limits : Limits} {came start taken text : List ℕ} {notes : Notes} {c
       }
 
   -- the script ended in the piece
-  pub piece_ended : {taken' : List ℕ} → Goes progress.Ended limits added done start taken text notes caller turn moment → taken' ≡ taken ++ text
-      → HasEnded limits (came ++ left) left start taken' notes caller
+  pub piece_ended : {taken' : List ℕ} → Goes progress.Ended limits added done start taken text now moment → taken' ≡ taken ++ text
+      → HasEnded limits (came ++ left) left start taken' now.notes now.caller
   piece_ended g out = record { run = piece_runs g out; read = read_ended limits (came ++ left) left (done ++ g.added) g.back (come_read g) g.state.0 }
 
   -- the sink failed within the piece
-  pub piece_torn : Goes progress.Output limits added done start taken text notes caller turn moment → HasBroken limits (came ++ left) left start taken notes caller
+  pub piece_torn : Goes progress.Output limits added done start taken text now moment → HasBroken limits (came ++ left) left start taken now.notes now.caller
   piece_torn g = record {
     answered = done ++ g.added;
     back = own_requests g.back;
     read = come_read g;
     whole = g.state.whole;
     texts = g.state.texts;
-    calls = cut_none limits (own_requests g.back) (done ++ g.added) notes caller g.state.notes_all;
+    calls = none_begun limits (own_requests g.back) (done ++ g.added) now.notes now.caller g.state.notes_all;
   }
 
   -- a request failed for want of memory
-  pub piece_memory : {taken' : List ℕ} → Goes progress.Memory limits added done start taken text notes caller turn moment → taken' ≡ taken ++ text
-      → HasStopped faults.NoMemory limits (came ++ left) left start taken' notes caller
-  piece_memory g out = failed_stops faults.NoMemory limits (came ++ left) left start taken text _ notes caller (done ++ g.added) g.back (come_read g) g.state out
+  pub piece_memory : {taken' : List ℕ} → Goes progress.Memory limits added done start taken text now moment → taken' ≡ taken ++ text
+      → HasStopped faults.NoMemory limits (came ++ left) left start taken' now.notes now.caller
+  piece_memory g out = failed_stops faults.NoMemory limits (came ++ left) left start taken text _ now (done ++ g.added) g.back (come_read g) g.state out
 
   -- or since the history is full
-  pub piece_full : {taken' : List ℕ} → Goes progress.Full limits added done start taken text notes caller turn moment → taken' ≡ taken ++ text
-      → HasStopped faults.HistoryFull limits (came ++ left) left start taken' notes caller
-  piece_full g out = failed_stops faults.HistoryFull limits (came ++ left) left start taken text _ notes caller (done ++ g.added) g.back (come_read g) g.state out
+  pub piece_full : {taken' : List ℕ} → Goes progress.Full limits added done start taken text now moment → taken' ≡ taken ++ text
+      → HasStopped faults.HistoryFull limits (came ++ left) left start taken' now.notes now.caller
+  piece_full g out = failed_stops faults.HistoryFull limits (came ++ left) left start taken text _ now (done ++ g.added) g.back (come_read g) g.state out
 
   -- the sink failed behind the piece
-  pub piece_breaks : {taken' : List ℕ} (p : Progress) → Goes p limits added done start taken text notes caller turn moment → (p ≡ progress.Output → ⊥)
-      → IsBeginning taken taken' text → HasBroken limits (came ++ left) left start taken' notes caller
-  piece_breaks progress.More g not by = answered_breaks limits (came ++ left) left start taken text _ notes caller turn moment (done ++ g.added) g.back (come_read g) g.state.1 by
-  piece_breaks progress.Ended g not by = answered_breaks limits (came ++ left) left start taken text _ notes caller turn moment (done ++ g.added) g.back (come_read g) g.state.1 by
-  piece_breaks progress.Memory g not by = failed_breaks faults.NoMemory limits (came ++ left) left start taken text _ notes caller (done ++ g.added) g.back (come_read g) g.state by
-  piece_breaks progress.Full g not by = failed_breaks faults.HistoryFull limits (came ++ left) left start taken text _ notes caller (done ++ g.added) g.back (come_read g) g.state by
+  pub piece_breaks : {taken' : List ℕ} (p : Progress) → Goes p limits added done start taken text now moment → (p ≡ progress.Output → ⊥)
+      → IsBeginning taken taken' text → HasBroken limits (came ++ left) left start taken' now.notes now.caller
+  piece_breaks progress.More g not by = answered_breaks limits (came ++ left) left start taken text _ now moment (done ++ g.added) g.back (come_read g) g.state.1 by
+  piece_breaks progress.Ended g not by = answered_breaks limits (came ++ left) left start taken text _ now moment (done ++ g.added) g.back (come_read g) g.state.1 by
+  piece_breaks progress.Memory g not by = failed_breaks faults.NoMemory limits (came ++ left) left start taken text _ now (done ++ g.added) g.back (come_read g) g.state by
+  piece_breaks progress.Full g not by = failed_breaks faults.HistoryFull limits (came ++ left) left start taken text _ now (done ++ g.added) g.back (come_read g) g.state by
   piece_breaks progress.Output g not by = absurd (not refl)

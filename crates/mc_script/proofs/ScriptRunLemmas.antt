@@ -4,7 +4,7 @@ use Rattle.std.specs.Prelude.{All, None}
 use Rattle.mc_proto.specs.{Grammar.IsModerate, Reader.After}
 use Rattle.mc_proto.specs.declared.{request.Limits.Limits, request.Request.Request, state.State.State}
 use Rattle.mc_proto.proofs.KeptRestLemmas.{after_reads}
-use Rattle.mc_script.specs.{Calls.Notes, Progress.AreModerate, Progress.AnswersWhole, Progress.HasCome, Progress.IsOnWay, Script.Answered, Script.texts_of}
+use Rattle.mc_script.specs.{Calls.CallsView, Progress.AreModerate, Progress.AnswersWhole, Progress.AsksNothing, Progress.HasCome, Progress.IsOnWay, Script.Answered, Script.texts_of}
 use Rattle.mc_script.specs.Run.{HasEnded, HasRun, HasRunTo, HasStarved, IsOut, first_moment}
 use Rattle.mc_script.proofs.ScriptPieceLemmas.{own_requests-all, NoneEnds-append}
 
@@ -14,10 +14,20 @@ pub since_none : {E : Type 0} {gave : E → E → List ℕ → Type 0} {first se
     → gave first second came → gave second third [] → gave first third came
 since_none {gave = gave} {first = first} {third = third} {came = came} goes_on one two = subst (gave first third) (append-nil came) (goes_on _ _ _ came [] one two)
 
+-- nothing was asked in two steps
+pub asks_both : {E : Type 0} {gave : E → E → List ℕ → Type 0} {reads over : E → ℕ} {first second third : E}
+    → ((first second third : E) (came more : List ℕ) → gave first second came → gave second third more → gave first third (came ++ more))
+    → AsksNothing gave reads over first second → AsksNothing gave reads over second third → AsksNothing gave reads over first third
+asks_both goes_on one two = record {
+  came = goes_on _ _ _ [] [] one.came two.came;
+  same_reads = two.same_reads ∙ one.same_reads;
+  same_over = two.same_over ∙ one.same_over;
+}
+
 -- before the first piece
-pub way_starts : {limits : Limits} {state : State} {unread start text : List ℕ} {notes : Notes} {caller turn moment : ℕ}
-    → After limits state unread [] [] → text ≡ [] → turn ≡ 0 → moment ≡ first_moment → notes [] None
-    → IsOnWay limits state unread [] start start text notes caller turn moment
+pub way_starts : {limits : Limits} {state : State} {unread start text : List ℕ} {now : CallsView} {moment : ℕ}
+    → After limits state unread [] [] → text ≡ [] → now.turn ≡ 0 → moment ≡ first_moment → now.notes [] None
+    → IsOnWay limits state unread [] start start text now moment
 way_starts {start = start} after none first early nothing = record {
   requests = [];
   done = [];
@@ -28,15 +38,15 @@ way_starts {start = start} after none first early nothing = record {
 }
 
 -- between two pieces all texts are out
-module _ {limits : Limits} {state : State} {unread came start taken text : List ℕ} {notes : Notes} {caller turn moment : ℕ}
-    (way : IsOnWay limits state unread came start taken text notes caller turn moment) (none : text ≡ []) where
+module _ {limits : Limits} {state : State} {unread came start taken text : List ℕ} {now : CallsView} {moment : ℕ}
+    (way : IsOnWay limits state unread came start taken text now moment) (none : text ≡ []) where
   -- all that was gathered is printed
   all_printed : taken ≡ start ++ texts_of way.done
   all_printed = way.state_of.took ∙ ap (λ (t : List ℕ). start ++ t)
       (sym (append-nil way.state_of.printed) ∙ ap (λ (t : List ℕ). way.state_of.printed ++ t) (sym none) ∙ way.state_of.texts)
 
   -- all requests of the bytes that came were answered
-  abbrev way_done : HasRun limits came start taken notes caller
+  abbrev way_done : HasRun limits came start taken now.notes now.caller
   way_done =
       let read = after_reads limits state unread came way.requests way.after in
       record {
@@ -64,7 +74,7 @@ module _ {limits : Limits} {state : State} {unread came start taken text : List 
   }
 
   -- the source has ended
-  pub way_ends : {left : List ℕ} → left ≡ [] → HasEnded limits (came ++ left) left start taken notes caller
+  pub way_ends : {left : List ℕ} → left ≡ [] → HasEnded limits (came ++ left) left start taken now.notes now.caller
   way_ends over =
       rw (over, append-nil) (record {
         run = way_done;
@@ -79,11 +89,11 @@ module _ {limits : Limits} {state : State} {unread came start taken text : List 
       })
 
   -- the source has failed
-  pub way_runs_out : (left : List ℕ) → HasRunTo limits (came ++ left) left start taken notes caller
+  pub way_runs_out : (left : List ℕ) → HasRunTo limits (came ++ left) left start taken now.notes now.caller
   way_runs_out left = record { came = came; split = refl; run = way_done; none = way.own }
 
   -- there was no memory for a piece
-  pub way_starves : (piece left : List ℕ) → HasStarved limits ((came ++ piece) ++ left) left start taken notes caller
+  pub way_starves : (piece left : List ℕ) → HasStarved limits ((came ++ piece) ++ left) left start taken now.notes now.caller
   way_starves piece left = record { piece = piece; run = rw append_assoc (way_runs_out (piece ++ left)) }
 
   -- a piece came
@@ -101,12 +111,12 @@ module _ {limits : Limits} {state : State} {unread came start taken text : List 
   }
 
 -- and the script goes on
-pub way_goes_on : {limits : Limits} {came start taken text : List ℕ} {notes : Notes} {caller turn moment : ℕ} {done : List Answered} {added : List Request}
-    → (come : HasCome limits came done added) → AnswersWhole limits start taken text notes caller turn moment done added
-    → IsOnWay limits come.state come.unread came start taken text notes caller turn moment
+pub way_goes_on : {limits : Limits} {came start taken text : List ℕ} {now : CallsView} {moment : ℕ} {done : List Answered} {added : List Request}
+    → (come : HasCome limits came done added) → AnswersWhole limits start taken text now moment done added
+    → IsOnWay limits come.state come.unread came start taken text now moment
 way_goes_on {added = added} come on = record {
   requests = come.requests ++ added;
-  done = on.now;
+  done = on.all;
   after = come.after;
   own = NoneEnds-append come.requests added come.own on.own;
   asked = on.asked ∙ ap (λ (t : List Request). t ++ added) come.asked;

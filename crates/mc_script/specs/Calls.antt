@@ -1,5 +1,5 @@
--- What is known of a caller's calls so far (`notes`), and what a request adds to it.
-use Rattle.std.specs.Prelude.{ℕ, ℤ, ◌≡◌, ◌≤◌, ◌<◌, ◌+◌, Bool, List, [], ◌∷◌, ◌++◌, Option, Some, None, length, map, take, drop}
+-- What contracts see of a caller, with what is known of its calls so far (`notes`), and what a request adds to that.
+use Rattle.std.specs.Prelude.{ℕ, ℤ, ◌≡◌, ◌≤◌, ◌<◌, ◌+◌, ◌^◌, Bool, List, [], ◌∷◌, ◌++◌, Option, Some, None, length, map, take, drop, Result, OnOk, IsErrOf}
 use Rattle.std.specs.List.{sum}
 use Rattle.mc_item.specs.declared.{command.Command.Command, fault.Fault.Fault, item.ClassNo.ClassNo, counts.Histogram.Histogram, reply.Reply.Reply}
 use Rattle.mc_item.specs.declared.command.Command.TheVariants.{Get, Gat}
@@ -8,19 +8,45 @@ use Rattle.mc_proto.specs.{Answers.Answer, Answers.Replied, Answers.text_of, Tex
 use Rattle.mc_proto.specs.declared.{request.Limits.Limits, request.Request.Request}
 use Rattle.mc_proto.specs.declared.request.Request.TheVariants as requests
 use Rattle.mc_script.specs.Exchanges.{AreAnswers, Asks, Begun, Exchange, MayBegin, ScriptCall, exchanges}
-use Rattle.mc_script.specs.Script.{calls_of}
+use Rattle.mc_script.specs.Script.{AllThere, calls_of}
 
 -- what is known of a caller's calls: a fact about the list of those with answers, and about the last call if it got none
 abbrev pub Notes : Type 1
 Notes = List Exchange → Option Begun → Type 0
+
+-- what contracts see of a caller: its number, its next turn, its notes, its slab classes, and if it may call or a history is full
+pub record CallsView : Type 1 where
+  pub caller : ℕ
+  pub turn : ℕ
+  pub notes : Notes
+  pub has_class : ClassNo → Type 0
+  pub may_call : Type 0
+  pub is_full : Type 0
+
+-- calls may be made at this moment: the next one may, the moment isn't too late, and the slab classes of these limits exist
+pub record MayAnswer (limits : Limits) (moment : ℕ) (now : CallsView) : Type 0 where
+  pub may : now.may_call
+  pub early : moment ≤ 2 ^ 62
+  pub classes : AllThere now.has_class limits
+
+-- the same caller, with the same slab classes
+pub record IsSameCaller (old new : CallsView) : Type 0 where
+  pub caller : new.caller ≡ old.caller
+  pub classes : (class : ClassNo) → (old.has_class class → new.has_class class) × (new.has_class class → old.has_class class)
+
+-- what a call leaves, whatever its result: the same caller, which may call again after a success; after `HistoryFull` a history is full
+pub record GoesOn {T : Type 0} (old new : CallsView) (result : Result T Fault) : Type 0 where
+  pub same : IsSameCaller old new
+  pub may : OnOk result new.may_call
+  pub full : IsErrOf result faults.HistoryFull → new.is_full
 
 -- whatever the old notes say of some calls, the new notes say of those calls followed by these; each got its answer
 pub record AddsCalls (old new : Notes) (more : List Exchange) : Type 0 where
   pub at : (calls : List Exchange) → old calls None → new (calls ++ more) None
 
 -- a call failed: no answer is added, and no other call was begun
-pub record BreaksOff (old new : Notes) (call : ScriptCall) (moment : ℕ) : Type 0 where
-  pub at : (calls : List Exchange) → old calls None → (begun : Option Begun) × MayBegin begun (call ∷ []) moment × new calls begun
+pub record BreaksOff (call : ScriptCall) (moment : ℕ) (old new : CallsView) : Type 0 where
+  pub at : (calls : List Exchange) → old.notes calls None → (begun : Option Begun) × MayBegin begun (call ∷ []) moment × new.notes calls begun
 
 -- how many of all its calls a failed request made: any number if memory ran out, fewer than all if a history was full
 abbrev pub IsPart : Fault → ℕ → ℕ → Type 0
@@ -28,11 +54,12 @@ IsPart faults.NoMemory made all = made ≤ all
 IsPart faults.HistoryFull made all = made < all
 
 -- a caller made these calls in order, each in its own turn, and got these answers
-pub record MakesCalls (calls : List ScriptCall) (answers : List Answer) (caller turn turn' moment : ℕ) (notes notes' : Notes) : Type 0 where
+pub record MakesCalls (calls : List ScriptCall) (answers : List Answer) (moment : ℕ) (old new : CallsView) : Type 0 where
   pub long : length answers ≡ length calls
   pub kinds : AreAnswers calls answers
-  pub noted : AddsCalls notes notes' (exchanges caller turn moment calls answers)
-  pub turns : turn' ≡ turn + length calls
+  pub noted : AddsCalls old.notes new.notes (exchanges old.caller old.turn moment calls answers)
+  pub turns : new.turn ≡ old.turn + length calls
+  pub caller : new.caller ≡ old.caller
 
 -- after the calls before, the first of these were answered, and at most the next one was begun and got no answer
 pub record AreCutOff (fault : Fault) (calls : List ScriptCall) (caller turn moment : ℕ) (before : List Exchange) (notes : Notes) : Type 0 where
@@ -44,18 +71,18 @@ pub record AreCutOff (fault : Fault) (calls : List ScriptCall) (caller turn mome
   pub noted : notes (before ++ exchanges caller turn moment calls answers) begun
 
 -- the first of these calls were made, and then a call failed or memory for a text ran out
-pub record Breaks (fault : Fault) (calls : List ScriptCall) (caller turn moment : ℕ) (notes notes' : Notes) : Type 0 where
-  pub at : (before : List Exchange) → notes before None → AreCutOff fault calls caller turn moment before notes'
+pub record Breaks (fault : Fault) (calls : List ScriptCall) (moment : ℕ) (old new : CallsView) : Type 0 where
+  pub at : (before : List Exchange) → old.notes before None → AreCutOff fault calls old.caller old.turn moment before new.notes
 
 -- a request was answered: all its calls were made, and its text was added
-pub record Answers (limits : Limits) (request : Request) (caller turn turn' moment : ℕ) (notes notes' : Notes) (text text' : List ℕ) : Type 0 where
+pub record Answers (limits : Limits) (request : Request) (moment : ℕ) (old new : CallsView) (text text' : List ℕ) : Type 0 where
   pub answers : List Answer
   pub texts : text' ≡ text ++ text_of request answers
-  pub makes : MakesCalls (calls_of limits request) answers caller turn turn' moment notes notes'
+  pub makes : MakesCalls (calls_of limits request) answers moment old new
 
 -- a request failed after its first calls
-abbrev pub Fails : Fault → Limits → Request → ℕ → ℕ → ℕ → Notes → Notes → Type 0
-Fails fault limits request caller turn moment notes notes' = Breaks fault (calls_of limits request) caller turn moment notes notes'
+abbrev pub Fails : Fault → Limits → Request → ℕ → CallsView → CallsView → Type 0
+Fails fault limits request moment old new = Breaks fault (calls_of limits request) moment old new
 
 -- the command that reads a key: a gat if there is an exptime, otherwise a get
 abbrev pub reading_command : Option ℤ → List ℕ → Command
@@ -68,22 +95,21 @@ reading_request None keys with_cas = requests.Get keys with_cas
 reading_request (Some exptime) keys with_cas = requests.Gat exptime keys with_cas
 
 -- one key of a get or gat was answered: its call was made, and on a hit the value's text was added
-pub record AnswersKey (key : List ℕ) (exptime : Option ℤ) (with_cas : Bool) (caller turn turn' moment : ℕ) (notes notes' : Notes)
-    (text text' : List ℕ) : Type 0 where
+pub record AnswersKey (key : List ℕ) (exptime : Option ℤ) (with_cas : Bool) (moment : ℕ) (old new : CallsView) (text text' : List ℕ) : Type 0 where
   pub reply : Reply
   pub texts : text' ≡ text ++ value_text key reply with_cas
-  pub makes : MakesCalls (Asks (reading_command exptime key) ∷ []) (Replied reply ∷ []) caller turn turn' moment notes notes'
+  pub makes : MakesCalls (Asks (reading_command exptime key) ∷ []) (Replied reply ∷ []) moment old new
 
 -- the call for one key of a get or gat failed, or memory for its text ran out
-abbrev pub FailsKey : Fault → List ℕ → Option ℤ → ℕ → ℕ → ℕ → Notes → Notes → Type 0
-FailsKey fault key exptime caller turn moment notes notes' = Breaks fault (Asks (reading_command exptime key) ∷ []) caller turn moment notes notes'
+abbrev pub FailsKey : Fault → List ℕ → Option ℤ → ℕ → CallsView → CallsView → Type 0
+FailsKey fault key exptime moment old new = Breaks fault (Asks (reading_command exptime key) ∷ []) moment old new
 
 -- the maintainer or the crawler worked on these classes in order, and its moves or histograms have this sum
-pub record SumsUp {S : Type 0} (call : ClassNo → ScriptCall) (sum_of : List Answer
-    → S) (classes : List ClassNo) (sums : S) (caller turn turn' moment : ℕ) (notes notes' : Notes) : Type 0 where
+pub record SumsUp {S : Type 0} (call : ClassNo → ScriptCall) (sum_of : List Answer → S) (classes : List ClassNo) (sums : S) (moment : ℕ)
+    (old new : CallsView) : Type 0 where
   pub answers : List Answer
   pub added : sums ≡ sum_of answers
-  pub makes : MakesCalls (map call classes) answers caller turn turn' moment notes notes'
+  pub makes : MakesCalls (map call classes) answers moment old new
 
 -- the number of entries seen is the sum of the counts of all kinds
 abbrev pub AddsUp : Histogram → Type 0

@@ -1,11 +1,11 @@
 -- What holds after a script's run, by how it ended: what was printed, and which calls were made.
-use Rattle.std.specs.Prelude.{ℕ, ◌≡◌, ◌<◌, ◌⊎◌, List, [], ◌∷◌, ◌++◌, Option, Some, None, false}
+use Rattle.std.specs.Prelude.{ℕ, ◌≡◌, ◌<◌, ◌⊎◌, List, [], ◌∷◌, ◌++◌, None, false}
 use Rattle.mc_item.specs.declared.fault.Fault.{Fault}
 use Rattle.mc_item.specs.declared.fault.Fault.TheVariants as faults
 use Rattle.mc_proto.specs.{Grammar.Reads, Text.IsBeginning}
 use Rattle.mc_proto.specs.declared.{request.Limits.Limits, request.Request.Request}
-use Rattle.mc_script.specs.Calls.{AreCutOff, Notes}
-use Rattle.mc_script.specs.Script.{Answered, AreWhole, all_exchanges, calls_of, ends, moment_behind, own_requests, requests_of, texts_of, turn_behind}
+use Rattle.mc_script.specs.Calls.{AreCutOff, CallsView, IsSameCaller, Notes}
+use Rattle.mc_script.specs.Script.{AllThere, Answered, AreWhole, all_exchanges, calls_of, ends, moment_behind, own_requests, requests_of, texts_of, turn_behind}
 use Rattle.mc_script.specs.declared.outcome.Outcome.{Outcome}
 use Rattle.mc_script.specs.declared.outcome.Outcome.TheVariants.{Done, Memory, HistoryFull, Input, Output}
 
@@ -128,7 +128,15 @@ AreCounted HistoryFull reads reads' writes writes' = (reads' ≡ reads) × (writ
 AreCounted Input reads reads' writes writes' = (reads < reads') × (writes' ≡ writes)
 AreCounted Output reads reads' writes writes' = (reads' ≡ reads) × (writes < writes')
 
--- failures are counted as the outcome says; as long as there is no outcome, nothing failed
-abbrev pub AreCountedSoFar : Option Outcome → ℕ → ℕ → ℕ → ℕ → Type 0
-AreCountedSoFar None reads reads' writes writes' = (reads' ≡ reads) × (writes' ≡ writes)
-AreCountedSoFar (Some outcome) reads reads' writes writes' = AreCounted outcome reads reads' writes writes'
+-- a run may start: no call was made yet, the first may be made, and the slab classes of these limits exist
+pub record MayStart (limits : Limits) (now : CallsView) : Type 0 where
+  pub may : now.may_call
+  pub first : now.turn ≡ 0
+  pub none : now.notes [] None
+  pub classes : AllThere now.has_class limits
+
+-- what a run with this outcome leaves of its caller: the same one, which may call again after `Done`; after `HistoryFull` a history is full
+pub record LeavesCaller (outcome : Outcome) (old new : CallsView) : Type 0 where
+  pub same : IsSameCaller old new
+  pub done : outcome ≡ Done → new.may_call
+  pub full : outcome ≡ HistoryFull → new.is_full

@@ -6,7 +6,7 @@ use Rattle.mc_item.specs.declared.fault.Fault.TheVariants as faults
 use Rattle.mc_proto.specs.Answers.{Answer}
 use Rattle.mc_proto.specs.declared.{request.Limits.Limits, request.Request.Request, request.Target.TheVariants.All}
 use Rattle.mc_proto.specs.declared.request.Request.TheVariants as requests
-use Rattle.mc_script.specs.{Calls.MakesCalls, Calls.Notes, Run.IsCutOff, Run.first_moment}
+use Rattle.mc_script.specs.{Calls.CallsView, Calls.MakesCalls, Calls.Notes, Run.IsCutOff, Run.first_moment}
 use Rattle.mc_script.specs.Script.{Answered, AreWhole, all_exchanges, calls_of, requests_of}
 use Rattle.mc_script.specs.declared.{outcome.Outcome.Outcome, upkeep.Keeper.Keeper, upkeep.Keeper.TheVariants.Maintainer, upkeep.Keeper.TheVariants.Crawler}
 use Rattle.mc_script.specs.declared.outcome.Outcome.TheVariants.{Done, Memory, HistoryFull, Input, Output}
@@ -26,9 +26,9 @@ abbrev pub many_calls : Limits → Keeper → List ℕ → ℕ
 many_calls limits keeper moments = length (flat_map (calls_of limits) (work_of keeper moments))
 
 -- a keeper did its work at one moment: all its calls were made
-pub record WorksAll (limits : Limits) (keeper : Keeper) (caller turn turn' moment : ℕ) (notes notes' : Notes) : Type 0 where
+pub record WorksAll (limits : Limits) (keeper : Keeper) (moment : ℕ) (old new : CallsView) : Type 0 where
   pub answers : List Answer
-  pub makes : MakesCalls (calls_of limits (directive_of keeper)) answers caller turn turn' moment notes notes'
+  pub makes : MakesCalls (calls_of limits (directive_of keeper)) answers moment old new
 
 -- all of this work was done, and just its calls were made
 pub record HasKeptUp (limits : Limits) (work : List Request) (notes : Notes) (caller : ℕ) : Type 0 where

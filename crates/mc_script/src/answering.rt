@@ -1,11 +1,11 @@
 //! Answers one request: makes its calls, and gathers its text.
-ghost use Rattle.std.specs.Prelude.{◌≡◌, ◌≤◌, ◌++◌, ◌^◌, ℕ, [], OnErr, OnOk, IfErr, IsErrOf, if◌then◌else◌};
+ghost use Rattle.std.specs.Prelude.{◌≡◌, ◌≤◌, ◌++◌, ◌^◌, ℕ, [], OnErr, OnOk, IfErr, if◌then◌else◌};
 ghost use Rattle.mc_item.specs.declared.fault.Fault.TheVariants as faults;
 ghost use Rattle.mc_proto.specs.{Grammar.IsModerate, Text.fault_text, Text.reply_text};
 ghost use Rattle.mc_proto.specs.declared.request.Limits.{Limits};
 ghost use Rattle.mc_proto.specs.declared.request.Request.TheVariants as requests;
-ghost use Rattle.mc_script.specs.Calls.{Answers, AnswersKey, Begins, Fails, FailsKey, reading_command, reading_request};
-ghost use Rattle.mc_script.specs.{Script.AllThere, Script.moment_after};
+ghost use Rattle.mc_script.specs.Calls.{Answers, AnswersKey, Begins, Fails, FailsKey, GoesOn, MayAnswer, reading_command, reading_request};
+ghost use Rattle.mc_script.specs.Script.{moment_after};
 
 use crate::calls::Calls;
 use crate::crawling::answer_crawl;
@@ -43,16 +43,12 @@ fn answer_key<C: Calls>(
     reading: Reading,
     moment: u64,
 ) -> Result<(), Fault>
-    requires may { C.may_call calls.old }
+    requires may { (C.view calls.old).may_call }
     requires early { moment ≤ 2 ^ 62 }
-    ensures may { OnOk result (C.may_call calls.new) }
-    ensures place { C.place calls.new ≡ C.place calls.old }
-    ensures caller { C.caller calls.new ≡ C.caller calls.old }
-    ensures ok { OnOk result (AnswersKey key reading.exptime reading.with_cas (C.caller calls.old) (C.turn calls.old) (C.turn calls.new) moment
-        (C.notes calls.old) (C.notes calls.new) text.old.items text.new.items) }
-    ensures err { IfErr result (λ e. FailsKey e key reading.exptime (C.caller calls.old) (C.turn calls.old) moment (C.notes calls.old) (C.notes calls.new)) }
+    ensures caller { GoesOn (C.view calls.old) (C.view calls.new) result }
+    ensures ok { OnOk result (AnswersKey key reading.exptime reading.with_cas moment (C.view calls.old) (C.view calls.new) text.old.items text.new.items) }
+    ensures err { IfErr result (λ e. FailsKey e key reading.exptime moment (C.view calls.old) (C.view calls.new)) }
     ensures front { Begins text.old.items text.new.items }
-    ensures full { IsErrOf result faults.HistoryFull → C.is_full calls.new }
 {
     let start = text.len();
     text.push_value_head(key.bytes())?;
@@ -65,6 +61,7 @@ fn answer_key<C: Calls>(
 }
 
 // Answers a get or gat of one key or more, in order, and ends its text.
+#[inline(always)]
 fn answer_reading<C: Calls>(
     rt: &impl Wait,
     calls: &mut C,
@@ -73,17 +70,14 @@ fn answer_reading<C: Calls>(
     reading: Reading,
     moment: u64,
 ) -> Result<(), Fault>
-    requires may { C.may_call calls.old }
+    requires may { (C.view calls.old).may_call }
     requires early { moment ≤ 2 ^ 62 }
-    ensures may { OnOk result (C.may_call calls.new) }
-    ensures place { C.place calls.new ≡ C.place calls.old }
-    ensures caller { C.caller calls.new ≡ C.caller calls.old }
-    ensures ok { (limits : Limits) → OnOk result (Answers limits (reading_request reading.exptime keys reading.with_cas) (C.caller calls.old)
-        (C.turn calls.old) (C.turn calls.new) moment (C.notes calls.old) (C.notes calls.new) text.old.items text.new.items) }
-    ensures err { (limits : Limits) → IfErr result (λ e. Fails e limits (reading_request reading.exptime keys reading.with_cas) (C.caller calls.old)
-        (C.turn calls.old) moment (C.notes calls.old) (C.notes calls.new)) }
+    ensures caller { GoesOn (C.view calls.old) (C.view calls.new) result }
+    ensures ok { (limits : Limits) → OnOk result (Answers limits (reading_request reading.exptime keys reading.with_cas) moment
+        (C.view calls.old) (C.view calls.new) text.old.items text.new.items) }
+    ensures err { (limits : Limits) → IfErr result (λ e. Fails e limits (reading_request reading.exptime keys reading.with_cas) moment
+        (C.view calls.old) (C.view calls.new)) }
     ensures front { Begins text.old.items text.new.items }
-    ensures full { IsErrOf result faults.HistoryFull → C.is_full calls.new }
 {
     match keys.into_one() {
         Ok(key) => answer_key(rt, calls, text, key, reading, moment)?,
@@ -109,6 +103,7 @@ fn push_unless(text: &mut ReplyText, reply: &Reply, quiet: bool) -> Result<(), N
 }
 
 // Answers a command other than a get or gat.
+#[inline(always)]
 fn answer_one<C: Calls>(
     rt: &impl Wait,
     calls: &mut C,
@@ -117,17 +112,13 @@ fn answer_one<C: Calls>(
     quiet: bool,
     moment: u64,
 ) -> Result<(), Fault>
-    requires may { C.may_call calls.old }
+    requires may { (C.view calls.old).may_call }
     requires early { moment ≤ 2 ^ 62 }
-    ensures may { OnOk result (C.may_call calls.new) }
-    ensures place { C.place calls.new ≡ C.place calls.old }
-    ensures caller { C.caller calls.new ≡ C.caller calls.old }
-    ensures ok { (limits : Limits) → OnOk result (Answers limits (requests.One command quiet) (C.caller calls.old) (C.turn calls.old) (C.turn calls.new) moment
-        (C.notes calls.old) (C.notes calls.new) text.old.items text.new.items) }
-    ensures err { (limits : Limits) → IfErr result (λ e. Fails e limits (requests.One command quiet) (C.caller calls.old) (C.turn calls.old) moment
-        (C.notes calls.old) (C.notes calls.new)) }
+    ensures caller { GoesOn (C.view calls.old) (C.view calls.new) result }
+    ensures ok { (limits : Limits) → OnOk result (Answers limits (requests.One command quiet) moment (C.view calls.old) (C.view calls.new) text.old.items
+        text.new.items) }
+    ensures err { (limits : Limits) → IfErr result (λ e. Fails e limits (requests.One command quiet) moment (C.view calls.old) (C.view calls.new)) }
     ensures front { Begins text.old.items text.new.items }
-    ensures full { IsErrOf result faults.HistoryFull → C.is_full calls.new }
 {
     let reply = calls.command(rt, command, moment)?;
     push_unless(text, &reply, quiet)?;
@@ -144,19 +135,16 @@ fn answer_chunks<C: Calls>(
     class: ClassNo,
     chunks: u64,
 ) -> Result<(), Fault>
-    requires may { C.may_call calls.old }
-    requires there { C.has_class (C.place calls.old) class }
+    requires may { (C.view calls.old).may_call }
+    requires there { (C.view calls.old).has_class class }
     requires some { 1 ≤ chunks }
     requires bound { chunks ≤ 2 ^ 20 }
-    ensures may { OnOk result (C.may_call calls.new) }
-    ensures place { C.place calls.new ≡ C.place calls.old }
-    ensures caller { C.caller calls.new ≡ C.caller calls.old }
-    ensures ok { (limits : Limits) (moment : ℕ) → OnOk result (Answers limits (requests.Chunks class chunks) (C.caller calls.old) (C.turn calls.old)
-        (C.turn calls.new) moment (C.notes calls.old) (C.notes calls.new) text.old.items text.new.items) }
-    ensures err { (limits : Limits) (moment : ℕ) → IfErr result (λ e. Fails e limits (requests.Chunks class chunks) (C.caller calls.old) (C.turn calls.old)
-        moment (C.notes calls.old) (C.notes calls.new)) }
+    ensures caller { GoesOn (C.view calls.old) (C.view calls.new) result }
+    ensures ok { (limits : Limits) (moment : ℕ) → OnOk result (Answers limits (requests.Chunks class chunks) moment (C.view calls.old)
+        (C.view calls.new) text.old.items text.new.items) }
+    ensures err { (limits : Limits) (moment : ℕ) → IfErr result (λ e. Fails e limits (requests.Chunks class chunks) moment (C.view calls.old)
+        (C.view calls.new)) }
     ensures front { Begins text.old.items text.new.items }
-    ensures full { IsErrOf result faults.HistoryFull → C.is_full calls.new }
 {
     calls.limit(rt, class, chunks)?;
     text.push_chunks(class, chunks)?;
@@ -175,6 +163,7 @@ fn refuse(text: &mut ReplyText, why: LineFault, quiet: bool) -> Result<(), Fault
 }
 
 // Answers a request. After an `Err` a part of its text may have been added.
+#[inline(always)]
 fn answer_whole<C: Calls>(
     rt: &impl Wait,
     limits: Limits,
@@ -183,20 +172,14 @@ fn answer_whole<C: Calls>(
     request: Request,
     moment: &mut u64,
 ) -> Result<(), Fault>
-    requires may { C.may_call calls.old }
-    requires now { moment.old ≤ 2 ^ 62 }
+    requires ready { MayAnswer limits moment.old (C.view calls.old) }
     requires moderate { IsModerate limits request }
-    requires classes { AllThere (C.has_class (C.place calls.old)) limits }
-    ensures may { OnOk result (C.may_call calls.new) }
     ensures early { moment.new ≤ 2 ^ 62 }
     ensures moment { OnOk result (moment.new ≡ moment_after moment.old request) }
-    ensures place { C.place calls.new ≡ C.place calls.old }
-    ensures caller { C.caller calls.new ≡ C.caller calls.old }
-    ensures ok { OnOk result (Answers limits request (C.caller calls.old) (C.turn calls.old) (C.turn calls.new) moment.old (C.notes calls.old)
-        (C.notes calls.new) text.old.items text.new.items) }
-    ensures err { IfErr result (λ e. Fails e limits request (C.caller calls.old) (C.turn calls.old) moment.old (C.notes calls.old) (C.notes calls.new)) }
+    ensures caller { GoesOn (C.view calls.old) (C.view calls.new) result }
+    ensures ok { OnOk result (Answers limits request moment.old (C.view calls.old) (C.view calls.new) text.old.items text.new.items) }
+    ensures err { IfErr result (λ e. Fails e limits request moment.old (C.view calls.old) (C.view calls.new)) }
     ensures front { Begins text.old.items text.new.items }
-    ensures full { IsErrOf result faults.HistoryFull → C.is_full calls.new }
 {
     match request {
         Request::Get { keys, with_cas } => {
@@ -234,6 +217,7 @@ fn answer_whole<C: Calls>(
 /// Answers a request at a moment: makes its calls, and adds its text. `%at` sets the moment for later requests.
 /// A request that ends its script makes no call and adds no text.
 /// After `NoMemory` or `HistoryFull` the first calls may have been made, and the text is unchanged.
+#[inline(always)]
 pub fn answer_request<C: Calls>(
     rt: &impl Wait,
     limits: Limits,
@@ -242,20 +226,14 @@ pub fn answer_request<C: Calls>(
     request: Request,
     moment: &mut u64,
 ) -> Result<(), Fault>
-    requires may { C.may_call calls.old }
-    requires now { moment.old ≤ 2 ^ 62 }
+    requires ready { MayAnswer limits moment.old (C.view calls.old) }
     requires moderate { IsModerate limits request }
-    requires classes { AllThere (C.has_class (C.place calls.old)) limits }
-    ensures may { OnOk result (C.may_call calls.new) }
     ensures early { moment.new ≤ 2 ^ 62 }
     ensures moment { OnOk result (moment.new ≡ moment_after moment.old request) }
-    ensures place { C.place calls.new ≡ C.place calls.old }
-    ensures caller { C.caller calls.new ≡ C.caller calls.old }
-    ensures ok { OnOk result (Answers limits request (C.caller calls.old) (C.turn calls.old) (C.turn calls.new) moment.old (C.notes calls.old)
-        (C.notes calls.new) text.old.items text.new.items) }
-    ensures err { IfErr result (λ e. Fails e limits request (C.caller calls.old) (C.turn calls.old) moment.old (C.notes calls.old) (C.notes calls.new)) }
+    ensures caller { GoesOn (C.view calls.old) (C.view calls.new) result }
+    ensures ok { OnOk result (Answers limits request moment.old (C.view calls.old) (C.view calls.new) text.old.items text.new.items) }
+    ensures err { IfErr result (λ e. Fails e limits request moment.old (C.view calls.old) (C.view calls.new)) }
     ensures text { OnErr result (text.new.items ≡ text.old.items) }
-    ensures full { IsErrOf result faults.HistoryFull → C.is_full calls.new }
 {
     let start = text.len();
     match answer_whole(rt, limits, calls, text, request, moment) {

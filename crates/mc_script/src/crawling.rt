@@ -1,10 +1,9 @@
 //! `%crawl`, the crawler's directive: one call for each class that it names, and a text with the sum of their histograms.
-ghost use Rattle.std.specs.Prelude.{◌≡◌, ◌+◌, ◌<◌, ◌≤◌, ◌^◌, ℕ, map, IfErr, IfOk, OnOk, IsErrOf};
-ghost use Rattle.mc_item.specs.declared.fault.Fault.TheVariants as faults;
+ghost use Rattle.std.specs.Prelude.{◌≡◌, ◌+◌, ◌<◌, ◌≤◌, ◌^◌, ℕ, map, IfErr, IfOk, OnOk};
 ghost use Rattle.mc_proto.specs.{Answers.counts_of, Grammar.AreAmong};
 ghost use Rattle.mc_proto.specs.declared.request.Request.TheVariants as requests;
-ghost use Rattle.mc_script.specs.Calls.{Answers, Begins, Breaks, Fails, SumsUp};
-ghost use Rattle.mc_script.specs.{Exchanges.Crawls, Script.AllThere, Script.classes_from, Script.classes_named};
+ghost use Rattle.mc_script.specs.Calls.{Answers, Begins, Breaks, Fails, GoesOn, MayAnswer, SumsUp};
+ghost use Rattle.mc_script.specs.{Exchanges.Crawls, Script.classes_from, Script.classes_named};
 
 use crate::calls::Calls;
 use mc_item::{ClassNo, Fault, Histogram};
@@ -19,18 +18,13 @@ fn crawl_from<C: Calls>(
     count: u32,
     moment: u64,
 ) -> Result<Histogram, Fault>
-    requires may { C.may_call calls.old }
+    requires may { (C.view calls.old).may_call }
     requires early { moment ≤ 2 ^ 62 }
     requires numbers { first + count ≤ 2 ^ 32 }
-    requires there { (n : ℕ) → first ≤ n → n < first + count → C.has_class (C.place calls.old) (record { 0 = n }) }
-    ensures may { OnOk result (C.may_call calls.new) }
-    ensures place { C.place calls.new ≡ C.place calls.old }
-    ensures caller { C.caller calls.new ≡ C.caller calls.old }
-    ensures ok { IfOk result (λ histogram. SumsUp Crawls counts_of (classes_from first count) histogram (C.caller calls.old) (C.turn calls.old)
-        (C.turn calls.new) moment (C.notes calls.old) (C.notes calls.new)) }
-    ensures err { IfErr result (λ e. Breaks e (map Crawls (classes_from first count)) (C.caller calls.old) (C.turn calls.old) moment (C.notes calls.old)
-        (C.notes calls.new)) }
-    ensures full { IsErrOf result faults.HistoryFull → C.is_full calls.new }
+    requires there { (n : ℕ) → first ≤ n → n < first + count → (C.view calls.old).has_class (record { 0 = n }) }
+    ensures caller { GoesOn (C.view calls.old) (C.view calls.new) result }
+    ensures ok { IfOk result (λ histogram. SumsUp Crawls counts_of (classes_from first count) histogram moment (C.view calls.old) (C.view calls.new)) }
+    ensures err { IfErr result (λ e. Breaks e (map Crawls (classes_from first count)) moment (C.view calls.old) (C.view calls.new)) }
 {
     let mut sum = Histogram::new();
     for i in 0..count {
@@ -48,18 +42,11 @@ pub(crate) fn crawl_target<C: Calls>(
     target: Target,
     moment: u64,
 ) -> Result<Histogram, Fault>
-    requires may { C.may_call calls.old }
-    requires early { moment ≤ 2 ^ 62 }
+    requires ready { MayAnswer limits moment (C.view calls.old) }
     requires among { AreAmong limits target }
-    requires classes { AllThere (C.has_class (C.place calls.old)) limits }
-    ensures may { OnOk result (C.may_call calls.new) }
-    ensures place { C.place calls.new ≡ C.place calls.old }
-    ensures caller { C.caller calls.new ≡ C.caller calls.old }
-    ensures ok { IfOk result (λ histogram. SumsUp Crawls counts_of (classes_named limits target) histogram (C.caller calls.old) (C.turn calls.old)
-        (C.turn calls.new) moment (C.notes calls.old) (C.notes calls.new)) }
-    ensures err { IfErr result (λ e. Breaks e (map Crawls (classes_named limits target)) (C.caller calls.old) (C.turn calls.old) moment (C.notes calls.old)
-        (C.notes calls.new)) }
-    ensures full { IsErrOf result faults.HistoryFull → C.is_full calls.new }
+    ensures caller { GoesOn (C.view calls.old) (C.view calls.new) result }
+    ensures ok { IfOk result (λ histogram. SumsUp Crawls counts_of (classes_named limits target) histogram moment (C.view calls.old) (C.view calls.new)) }
+    ensures err { IfErr result (λ e. Breaks e (map Crawls (classes_named limits target)) moment (C.view calls.old) (C.view calls.new)) }
 {
     match target {
         Target::All => crawl_from(rt, calls, 1, limits.classes, moment),
@@ -79,19 +66,12 @@ pub fn answer_crawl<C: Calls>(
     target: Target,
     moment: u64,
 ) -> Result<(), Fault>
-    requires may { C.may_call calls.old }
-    requires early { moment ≤ 2 ^ 62 }
+    requires ready { MayAnswer limits moment (C.view calls.old) }
     requires among { AreAmong limits target }
-    requires classes { AllThere (C.has_class (C.place calls.old)) limits }
-    ensures may { OnOk result (C.may_call calls.new) }
-    ensures place { C.place calls.new ≡ C.place calls.old }
-    ensures caller { C.caller calls.new ≡ C.caller calls.old }
-    ensures ok { OnOk result (Answers limits (requests.Crawl target) (C.caller calls.old) (C.turn calls.old) (C.turn calls.new) moment (C.notes calls.old)
-        (C.notes calls.new) text.old.items text.new.items) }
-    ensures err { IfErr result (λ e. Fails e limits (requests.Crawl target) (C.caller calls.old) (C.turn calls.old) moment (C.notes calls.old)
-        (C.notes calls.new)) }
+    ensures caller { GoesOn (C.view calls.old) (C.view calls.new) result }
+    ensures ok { OnOk result (Answers limits (requests.Crawl target) moment (C.view calls.old) (C.view calls.new) text.old.items text.new.items) }
+    ensures err { IfErr result (λ e. Fails e limits (requests.Crawl target) moment (C.view calls.old) (C.view calls.new)) }
     ensures front { Begins text.old.items text.new.items }
-    ensures full { IsErrOf result faults.HistoryFull → C.is_full calls.new }
 {
     let histogram = crawl_target(rt, limits, calls, target, moment)?;
     text.push_histogram(&histogram)?;

@@ -1,10 +1,12 @@
 //! Runs a script: answers its requests as they come, and prints their texts.
-ghost use Rattle.std.specs.Prelude.{◌≡◌, ◌≤◌, ◌<◌, ◌++◌, ◌^◌, All, List, ℕ, [], None, Some, IfOk, OnErr, OnOk, true, false, length};
+ghost use Rattle.std.specs.Prelude.{◌≡◌, ◌≤◌, ◌<◌, ◌++◌, ◌^◌, All, List, ℕ, [], None, Some, IfOk, OnErr, OnOk, true, false, length, unwrap_or};
 ghost use Rattle.mc_proto.specs.{Grammar.IsModerate, Reader.After, Text.IsBeginning};
-ghost use Rattle.mc_script.specs.Progress.{AreModerate, AreWritten, Goes, HasAnswered, HasCome, LeavesPiece};
-ghost use Rattle.mc_script.specs.{Run.AreCounted, Run.AreCountedSoFar, Run.HasLeft, Run.MayRunFrom, Script.AllThere, Script.Answered, Script.ends};
+ghost use Rattle.mc_script.specs.Calls.{MayAnswer};
+ghost use Rattle.mc_script.specs.Progress.{AreModerate, AsksNothing, Goes, HasAnswered, HasCome, LeavesPiece, outcome_of};
+ghost use Rattle.mc_script.specs.Run.{AreCounted, HasLeft, LeavesCaller, MayRunFrom, MayStart};
+ghost use Rattle.mc_script.specs.Script.{Answered, ends};
+ghost use Rattle.mc_script.specs.declared.outcome.Outcome.TheVariants.{Done};
 ghost use Rattle.mc_proto.specs.declared.{request.Limits.Limits, request.Request.Request};
-ghost use Rattle.mc_script.specs.declared.outcome.Outcome.TheVariants as outcomes;
 
 use crate::answering::answer_request;
 use crate::calls::Calls;
@@ -23,6 +25,13 @@ pub(crate) enum Progress {
     Memory,
     Full,
     Output,
+}
+
+// What a script carries from request to request: the text that isn't printed yet, and the moment (time in seconds) of its calls.
+#[derive(Drop)]
+struct RunState {
+    text: ReplyText,
+    moment: u64,
 }
 
 // How many bytes of text are gathered before they are printed.
@@ -49,9 +58,7 @@ fn ends_script(request: &Request) -> bool
 fn print_text<E: Ends>(ends: &mut E, text: &mut ReplyText) -> Result<(), SinkFault>
     ensures ok { OnOk result ((E.taken ends.new ≡ E.taken ends.old ++ text.old.items) × (text.new.items ≡ []) × (E.writes ends.new ≡ E.writes ends.old)) }
     ensures err { OnErr result ((E.writes ends.old < E.writes ends.new) × IsBeginning (E.taken ends.old) (E.taken ends.new) text.old.items) }
-    ensures gave { E.gave ends.old ends.new [] }
-    ensures reads { E.reads ends.new ≡ E.reads ends.old }
-    ensures over { E.over ends.new ≡ E.over ends.old }
+    ensures asks_nothing { AsksNothing E.gave E.reads E.over ends.old ends.new }
 {
     if text.len() == 0 {
         return Ok(());
@@ -64,9 +71,7 @@ fn print_much<E: Ends>(ends: &mut E, text: &mut ReplyText) -> Result<(), SinkFau
     ensures ok { OnOk result ((more : List ℕ) × (E.taken ends.new ≡ E.taken ends.old ++ more) × (text.old.items ≡ more ++ text.new.items)) }
     ensures fine { OnOk result (E.writes ends.new ≡ E.writes ends.old) }
     ensures err { OnErr result ((E.writes ends.old < E.writes ends.new) × IsBeginning (E.taken ends.old) (E.taken ends.new) text.old.items) }
-    ensures gave { E.gave ends.old ends.new [] }
-    ensures reads { E.reads ends.new ≡ E.reads ends.old }
-    ensures over { E.over ends.new ≡ E.over ends.old }
+    ensures asks_nothing { AsksNothing E.gave E.reads E.over ends.old ends.new }
 {
     if text.len() < GATHERED {
         return Ok(());
@@ -80,34 +85,31 @@ fn answer_all<E: Ends, C: Calls>(
     limits: Limits,
     calls: &mut C,
     ends: &mut E,
-    text: &mut ReplyText,
+    state: &mut RunState,
     requests: Vec<Request>,
-    moment: &mut u64,
 ) -> Progress
-    requires may { C.may_call calls.old }
-    requires early { moment.old ≤ 2 ^ 62 }
-    requires classes { AllThere (C.has_class (C.place calls.old)) limits }
+    requires ready { MayAnswer limits state.old.moment (C.view calls.old) }
     requires moderate { AreModerate limits requests.items }
-    ensures may { result ≡ Progress.More → C.may_call calls.new }
-    ensures ended { result ≡ Progress.Ended → C.may_call calls.new }
-    ensures early { moment.new ≤ 2 ^ 62 }
-    ensures place { C.place calls.new ≡ C.place calls.old }
-    ensures caller { C.caller calls.new ≡ C.caller calls.old }
+    ensures caller { LeavesCaller (outcome_of result) (C.view calls.old) (C.view calls.new) }
+    ensures early { state.new.moment ≤ 2 ^ 62 }
     ensures goes { (before : List Answered) (start : List ℕ)
-        → HasAnswered limits before start (E.taken ends.old) text.old.items (C.notes calls.old) (C.caller calls.old) (C.turn calls.old) moment.old
-        → Goes result limits requests.items before start (E.taken ends.new) text.new.items (C.notes calls.new) (C.caller calls.old) (C.turn calls.new)
-        moment.new }
-    ensures full { result ≡ Progress.Full → C.is_full calls.new }
-    ensures written { AreWritten result (E.writes ends.old) (E.writes ends.new) }
-    ensures gave { E.gave ends.old ends.new [] }
-    ensures reads { E.reads ends.new ≡ E.reads ends.old }
-    ensures over { E.over ends.new ≡ E.over ends.old }
+        → HasAnswered limits before start (E.taken ends.old) state.old.text.items (C.view calls.old) state.old.moment
+        → Goes result limits requests.items before start (E.taken ends.new) state.new.text.items (C.view calls.new) state.new.moment }
+    ensures counted { AreCounted (outcome_of result) (E.reads ends.old) (E.reads ends.new) (E.writes ends.old) (E.writes ends.new) }
+    ensures asks_nothing { AsksNothing E.gave E.reads E.over ends.old ends.new }
 {
     for request in requests {
         if ends_script(&request) {
             return Progress::Ended;
         }
-        match answer_request(rt, limits, calls, text, request, moment) {
+        match answer_request(
+            rt,
+            limits,
+            calls,
+            &mut state.text,
+            request,
+            &mut state.moment,
+        ) {
             Ok(()) => {}
             Err(Fault::NoMemory) => {
                 return Progress::Memory;
@@ -116,7 +118,7 @@ fn answer_all<E: Ends, C: Calls>(
                 return Progress::Full;
             }
         }
-        match print_much(ends, text) {
+        match print_much(ends, &mut state.text) {
             Ok(()) => {}
             Err(_) => {
                 return Progress::Output;
@@ -132,34 +134,26 @@ fn answer_piece<E: Ends, C: Calls>(
     limits: Limits,
     calls: &mut C,
     ends: &mut E,
-    text: &mut ReplyText,
+    state: &mut RunState,
     requests: Vec<Request>,
-    moment: &mut u64,
 ) -> Option<Outcome>
-    requires may { C.may_call calls.old }
-    requires early { moment.old ≤ 2 ^ 62 }
-    requires classes { AllThere (C.has_class (C.place calls.old)) limits }
+    requires ready { MayAnswer limits state.old.moment (C.view calls.old) }
     requires moderate { AreModerate limits requests.items }
-    requires none { text.old.items ≡ [] }
-    ensures may { result ≡ None → C.may_call calls.new }
-    ensures done { result ≡ Some outcomes.Done → C.may_call calls.new }
-    ensures early { moment.new ≤ 2 ^ 62 }
-    ensures place { C.place calls.new ≡ C.place calls.old }
-    ensures caller { C.caller calls.new ≡ C.caller calls.old }
+    requires none { state.old.text.items ≡ [] }
+    ensures caller { LeavesCaller (unwrap_or result Done) (C.view calls.old) (C.view calls.new) }
+    ensures early { state.new.moment ≤ 2 ^ 62 }
     ensures leaves { (came left start : List ℕ) (done : List Answered) → HasCome limits came done requests.items
-        → HasAnswered limits done start (E.taken ends.old) text.old.items (C.notes calls.old) (C.caller calls.old) (C.turn calls.old) moment.old
-        → LeavesPiece result limits (came ++ left) left start (E.taken ends.new) text.new.items (C.notes calls.new) (C.caller calls.old)
-        (C.turn calls.new) moment.new done requests.items }
-    ensures full { result ≡ Some outcomes.HistoryFull → C.is_full calls.new }
-    ensures counted { AreCountedSoFar result (E.reads ends.old) (E.reads ends.new) (E.writes ends.old) (E.writes ends.new) }
-    ensures gave { E.gave ends.old ends.new [] }
-    ensures over { E.over ends.new ≡ E.over ends.old }
+        → HasAnswered limits done start (E.taken ends.old) state.old.text.items (C.view calls.old) state.old.moment
+        → LeavesPiece result limits (came ++ left) left start (E.taken ends.new) state.new.text.items (C.view calls.new) state.new.moment
+        done requests.items }
+    ensures counted { AreCounted (unwrap_or result Done) (E.reads ends.old) (E.reads ends.new) (E.writes ends.old) (E.writes ends.new) }
+    ensures asks_nothing { AsksNothing E.gave E.reads E.over ends.old ends.new }
 {
-    let progress = answer_all(rt, limits, calls, ends, text, requests, moment);
+    let progress = answer_all(rt, limits, calls, ends, state, requests);
     if let Progress::Output = progress {
         return Some(Outcome::Output);
     }
-    match print_text(ends, text) {
+    match print_text(ends, &mut state.text) {
         Ok(()) => {}
         Err(_) => return Some(Outcome::Output),
     }
@@ -199,21 +193,17 @@ pub fn run_script<E: Ends, C: Calls>(
     calls: &mut C,
     ends: &mut E,
 ) -> Outcome
-    requires may { C.may_call calls.old }
-    requires first { C.turn calls.old ≡ 0 }
-    requires none { C.notes calls.old [] None }
-    requires classes { AllThere (C.has_class (C.place calls.old)) limits }
+    requires starts { MayStart limits (C.view calls.old) }
     requires asks { MayRunFrom E.gave E.taken E.reads E.writes E.over E.may_ask limits ends.old }
-    ensures leaves { HasLeft E.gave E.ended E.taken result limits ends.old ends.new (C.notes calls.new) (C.caller calls.old) }
+    ensures leaves { HasLeft E.gave E.ended E.taken result limits ends.old ends.new (C.view calls.new).notes (C.view calls.old).caller }
     ensures counted { AreCounted result (E.reads ends.old) (E.reads ends.new) (E.writes ends.old) (E.writes ends.new) }
-    ensures place { C.place calls.new ≡ C.place calls.old }
-    ensures caller { C.caller calls.new ≡ C.caller calls.old }
-    ensures full { result ≡ outcomes.HistoryFull → C.is_full calls.new }
-    ensures done { result ≡ outcomes.Done → C.may_call calls.new }
+    ensures caller { LeavesCaller result (C.view calls.old) (C.view calls.new) }
 {
     let mut reader = Reader::new(alloc, limits);
-    let mut text = ReplyText::new(alloc);
-    let mut moment = 1000;
+    let mut state = RunState {
+        text: ReplyText::new(alloc),
+        moment: 1000,
+    };
     for _ in rt.forever() {
         let piece = match ends.piece() {
             Ok(Some(piece)) => piece,
@@ -224,7 +214,7 @@ pub fn run_script<E: Ends, C: Calls>(
             Ok(requests) => requests,
             Err(_) => return Outcome::Memory,
         };
-        match answer_piece(rt, limits, calls, ends, &mut text, requests, &mut moment) {
+        match answer_piece(rt, limits, calls, ends, &mut state, requests) {
             None => {}
             Some(outcome) => return outcome,
         }

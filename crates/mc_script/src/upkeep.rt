@@ -1,8 +1,8 @@
 //! Upkeep: the maintainer and the crawler work on all slab classes, at given moments (times in seconds).
-ghost use Rattle.std.specs.Prelude.{◌≡◌, ◌≤◌, ◌<◌, ◌^◌, ℕ, [], None, IfErr, OnOk, IsErrOf};
+ghost use Rattle.std.specs.Prelude.{◌≡◌, ◌≤◌, ◌<◌, ◌^◌, ℕ, [], IfErr, OnOk};
 ghost use Rattle.std.specs.List.{All};
-ghost use Rattle.mc_item.specs.declared.fault.Fault.TheVariants as faults;
-ghost use Rattle.mc_script.specs.{Calls.Fails, Script.AllThere, Upkeep.KeepsUp, Upkeep.WorksAll, Upkeep.directive_of, Upkeep.many_calls, Upkeep.work_of};
+ghost use Rattle.mc_script.specs.{Calls.Fails, Calls.GoesOn, Calls.MayAnswer, Run.LeavesCaller, Run.MayStart};
+ghost use Rattle.mc_script.specs.Upkeep.{KeepsUp, WorksAll, directive_of, many_calls, work_of};
 ghost use Rattle.mc_script.specs.declared.outcome.Outcome.TheVariants as outcomes;
 
 use crate::calls::Calls;
@@ -30,17 +30,10 @@ fn keep_all<C: Calls>(
     keeper: Keeper,
     moment: u64,
 ) -> Result<(), Fault>
-    requires may { C.may_call calls.old }
-    requires early { moment ≤ 2 ^ 62 }
-    requires classes { AllThere (C.has_class (C.place calls.old)) limits }
-    ensures may { OnOk result (C.may_call calls.new) }
-    ensures place { C.place calls.new ≡ C.place calls.old }
-    ensures caller { C.caller calls.new ≡ C.caller calls.old }
-    ensures ok { OnOk result (WorksAll limits keeper (C.caller calls.old) (C.turn calls.old) (C.turn calls.new) moment (C.notes calls.old)
-        (C.notes calls.new)) }
-    ensures err { IfErr result (λ e. Fails e limits (directive_of keeper) (C.caller calls.old) (C.turn calls.old) moment (C.notes calls.old)
-        (C.notes calls.new)) }
-    ensures full { IsErrOf result faults.HistoryFull → C.is_full calls.new }
+    requires ready { MayAnswer limits moment (C.view calls.old) }
+    ensures caller { GoesOn (C.view calls.old) (C.view calls.new) result }
+    ensures ok { OnOk result (WorksAll limits keeper moment (C.view calls.old) (C.view calls.new)) }
+    ensures err { IfErr result (λ e. Fails e limits (directive_of keeper) moment (C.view calls.old) (C.view calls.new)) }
 {
     match keeper {
         Keeper::Maintainer => {
@@ -65,17 +58,11 @@ pub fn run_upkeep<C: Calls>(
     keeper: Keeper,
     moments: &[u64],
 ) -> Outcome
-    requires may { C.may_call calls.old }
-    requires first { C.turn calls.old ≡ 0 }
-    requires none { C.notes calls.old [] None }
+    requires starts { MayStart limits (C.view calls.old) }
     requires early { All (λ moment. moment ≤ 2 ^ 62) moments.now }
-    requires classes { AllThere (C.has_class (C.place calls.old)) limits }
-    ensures leaves { KeepsUp result limits (work_of keeper moments.now) (C.notes calls.new) (C.caller calls.old) }
-    ensures place { C.place calls.new ≡ C.place calls.old }
-    ensures caller { C.caller calls.new ≡ C.caller calls.old }
-    ensures full { result ≡ outcomes.HistoryFull → C.is_full calls.new }
-    ensures done { result ≡ outcomes.Done → C.may_call calls.new }
-    ensures turns { result ≡ outcomes.Done → C.turn calls.new ≡ many_calls limits keeper moments.now }
+    ensures leaves { KeepsUp result limits (work_of keeper moments.now) (C.view calls.new).notes (C.view calls.old).caller }
+    ensures caller { LeavesCaller result (C.view calls.old) (C.view calls.new) }
+    ensures turns { result ≡ outcomes.Done → (C.view calls.new).turn ≡ many_calls limits keeper moments.now }
     ensures idle { moments.now ≡ [] → calls.new ≡ calls.old }
 {
     for i in 0..moments.len() {

@@ -45,21 +45,14 @@ impl Noted {
 impl Calls for Noted {
     ghost use Rattle.std.specs.Prelude.{length};
 
-    ghost Place = { Unit {0} };
-
-    ghost place = { λ m. tt };
-
-    ghost has_class = { λ place class. Unit {0} };
-
-    ghost caller = { λ m. 0 };
-
-    ghost turn = { λ m. m.made };
-
-    ghost notes = { λ m calls begun. length calls ≡ m.made };
-
-    ghost is_full = { λ m. Unit {0} };
-
-    ghost may_call = { λ m. Unit {0} };
+    ghost view = { λ m. record {
+      caller = 0;
+      turn = m.made;
+      notes = λ calls begun. length calls ≡ m.made;
+      has_class = λ class. Unit {0};
+      may_call = Unit {0};
+      is_full = Unit {0};
+    } };
 
     fn command(&mut self, _rt: &impl Wait, command: Command, _moment: u64) -> Result<Reply, Fault> {
         drop(command);

@@ -85,21 +85,14 @@ impl Calls for Misses {
     ghost use Rattle.std.specs.Prelude.{◌≤◌, length};
     ghost use Rattle.mc_tests.specs.declared.tests.asking.TheConstants.{MOST};
 
-    ghost Place = { Unit {0} };
-
-    ghost place = { λ m. tt };
-
-    ghost has_class = { λ p class. Unit {0} };
-
-    ghost caller = { λ m. 0 };
-
-    ghost turn = { λ m. m.made };
-
-    ghost notes = { λ m calls begun. length calls ≡ m.made };
-
-    ghost is_full = { λ m. MOST ≤ m.made };
-
-    ghost may_call = { λ m. Unit {0} };
+    ghost view = { λ m. record {
+      caller = 0;
+      turn = m.made;
+      notes = λ calls begun. length calls ≡ m.made;
+      has_class = λ class. Unit {0};
+      may_call = Unit {0};
+      is_full = MOST ≤ m.made;
+    } };
 
     fn command(
         &mut self,

@@ -1,7 +1,7 @@
 use Rattle.std.proofs.Common.{subst, sym, rules}
 use Rattle.std.proofs.lemmas.Result.{IfErr-weaker}
 use Rattle.mc_item.specs.declared.fault.Fault.{Fault}
-use Rattle.mc_script.specs.{Calls.Fails, Script.calls_of}
+use Rattle.mc_script.specs.Calls.{Fails}
 use Rattle.mc_script.proofs.MadeCallLemmas.{breaks_none}
 use Rattle.mc_script.proofs.answering.answer_whole.Goals as goal
 
@@ -19,11 +19,8 @@ returns-in-One-clause-err g c = rw c.in-One.is (c.answer_one.ensures.err c.args.
 
 pub returns-in-Bad-clause-err : goal.returns-in-Bad-clause-err
 returns-in-Bad-clause-err g c =
-    let notes = g.C.Calls.notes c.args.calls.now in
-    let caller = g.C.Calls.caller c.args.calls.now in
-    let turn = g.C.Calls.turn c.args.calls.now in
-    IfErr-weaker c.refuse.result _ _ (λ e is. subst (λ (f : Fault). Fails f c.args.limits c.args.request caller turn c.args.moment.now notes notes) (sym is.0)
-    (breaks_none (calls_of c.args.limits c.args.request) caller turn c.args.moment.now notes)) c.refuse.ensures.err
+    let now = g.C.Calls.view c.args.calls.now in
+    IfErr-weaker c.refuse.result _ _ (λ e is. subst (λ (f : Fault). Fails f c.args.limits c.args.request c.args.moment.now now now) (sym is.0) (breaks_none now)) c.refuse.ensures.err
 
 pub returns-in-Chunks-clause-err : goal.returns-in-Chunks-clause-err
 returns-in-Chunks-clause-err g c = rw c.in-Chunks.is (c.answer_chunks.ensures.err c.args.limits c.args.moment.now)

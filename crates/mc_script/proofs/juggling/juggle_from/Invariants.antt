@@ -1,15 +1,14 @@
-use Rattle.std.proofs.Common.{◌≡◌, ◌≤◌, ◌*◌}
+use Rattle.std.proofs.Common.{◌≤◌, ◌*◌}
 use Rattle.mc_proto.specs.Answers.{moves_of}
-use Rattle.mc_script.specs.{Calls.SumsUp, Exchanges.Juggles, Script.classes_from}
+use Rattle.mc_script.specs.{Calls.IsSameCaller, Calls.SumsUp, Exchanges.Juggles, Script.classes_from}
 use Rattle.mc_script.proofs.juggling.juggle_from.Given as goal
 
 -- the classes so far were juggled, and no sum is large
 abbrev pub invariant-loop-i : goal.invariant-loop-i
 invariant-loop-i g l = record {
-  may : g.C.Calls.may_call l.calls;
-  place : g.C.Calls.place l.calls ≡ g.C.Calls.place l.fn.calls;
-  caller : g.C.Calls.caller l.calls ≡ g.C.Calls.caller l.fn.calls;
+  may : (g.C.Calls.view l.calls).may_call;
+  same : IsSameCaller (g.C.Calls.view l.fn.calls) (g.C.Calls.view l.calls);
   reclaimed : l.sums.reclaimed ≤ l.i * 4294967295;
   moved : l.sums.moved ≤ l.i * 4294967295;
-  juggled : SumsUp Juggles moves_of (classes_from l.first l.i) l.sums (g.C.Calls.caller l.fn.calls) (g.C.Calls.turn l.fn.calls) (g.C.Calls.turn l.calls) l.moment (g.C.Calls.notes l.fn.calls) (g.C.Calls.notes l.calls);
+  juggled : SumsUp Juggles moves_of (classes_from l.first l.i) l.sums l.moment (g.C.Calls.view l.fn.calls) (g.C.Calls.view l.calls);
 }

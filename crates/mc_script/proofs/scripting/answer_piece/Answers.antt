@@ -1,5 +1,6 @@
-use Rattle.std.proofs.Common.{[], inl}
+use Rattle.std.proofs.Common.{inl}
 use Rattle.mc_script.proofs.ScriptPieceLemmas.{piece_torn, piece_breaks, piece_goes_on, piece_ended, piece_memory, piece_full}
+use Rattle.mc_script.proofs.ScriptRunLemmas.{asks_both}
 use Rattle.mc_script.proofs.scripting.answer_piece.Goals as goal
 
 pub returns-in-Output-clause-leaves : goal.returns-in-Output-clause-leaves
@@ -25,17 +26,17 @@ pub returns-in-Full-clause-leaves : goal.returns-in-Full-clause-leaves
 returns-in-Full-clause-leaves g c = λ came left start done come has.
     piece_full come left (rw c.in-Full.is at (c.answer_all-progress.ensures.goes done start has)) c.in-Ok.ensures.ok.0
 
-pub returns-in-Err-clause-gave : goal.returns-in-Err-clause-gave
-returns-in-Err-clause-gave g c = g.met.E.Ends.goes_on _ _ _ [] [] c.answer_all-progress.ensures.gave c.print_text.ensures.gave
+pub returns-in-Err-clause-asks_nothing : goal.returns-in-Err-clause-asks_nothing
+returns-in-Err-clause-asks_nothing g c = asks_both g.met.E.Ends.goes_on c.answer_all-progress.ensures.asks_nothing c.print_text.ensures.asks_nothing
 
-pub returns-in-More-clause-gave : goal.returns-in-More-clause-gave
-returns-in-More-clause-gave g c = g.met.E.Ends.goes_on _ _ _ [] [] c.answer_all-progress.ensures.gave c.print_text.ensures.gave
+pub returns-in-More-clause-asks_nothing : goal.returns-in-More-clause-asks_nothing
+returns-in-More-clause-asks_nothing g c = asks_both g.met.E.Ends.goes_on c.answer_all-progress.ensures.asks_nothing c.print_text.ensures.asks_nothing
 
-pub returns-in-Ended-clause-gave : goal.returns-in-Ended-clause-gave
-returns-in-Ended-clause-gave g c = g.met.E.Ends.goes_on _ _ _ [] [] c.answer_all-progress.ensures.gave c.print_text.ensures.gave
+pub returns-in-Ended-clause-asks_nothing : goal.returns-in-Ended-clause-asks_nothing
+returns-in-Ended-clause-asks_nothing g c = asks_both g.met.E.Ends.goes_on c.answer_all-progress.ensures.asks_nothing c.print_text.ensures.asks_nothing
 
-pub returns-in-Memory-clause-gave : goal.returns-in-Memory-clause-gave
-returns-in-Memory-clause-gave g c = g.met.E.Ends.goes_on _ _ _ [] [] c.answer_all-progress.ensures.gave c.print_text.ensures.gave
+pub returns-in-Memory-clause-asks_nothing : goal.returns-in-Memory-clause-asks_nothing
+returns-in-Memory-clause-asks_nothing g c = asks_both g.met.E.Ends.goes_on c.answer_all-progress.ensures.asks_nothing c.print_text.ensures.asks_nothing
 
-pub returns-in-Full-clause-gave : goal.returns-in-Full-clause-gave
-returns-in-Full-clause-gave g c = g.met.E.Ends.goes_on _ _ _ [] [] c.answer_all-progress.ensures.gave c.print_text.ensures.gave
+pub returns-in-Full-clause-asks_nothing : goal.returns-in-Full-clause-asks_nothing
+returns-in-Full-clause-asks_nothing g c = asks_both g.met.E.Ends.goes_on c.answer_all-progress.ensures.asks_nothing c.print_text.ensures.asks_nothing

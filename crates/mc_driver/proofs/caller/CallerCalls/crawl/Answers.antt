@@ -1,13 +1,13 @@
 use Rattle.std.proofs.Common.{refl}
 use Rattle.mc_script.specs.Exchanges.{Crawls}
 use Rattle.mc_store.specs.{Callers.crawling_of, Passes.next_who}
-use Rattle.mc_driver.proofs.{CalledEventLemmas.full_calls, CalledEventLemmas.may_again, SharedCallLemmas.call_failed, SharedCallLemmas.crawled_kinds, SharedCallLemmas.crawled_ok}
+use Rattle.mc_driver.proofs.{CalledEventLemmas.full_calls, SharedCallLemmas.call_failed, SharedCallLemmas.goes_on, SharedCallLemmas.crawled_kinds, SharedCallLemmas.crawled_ok}
 use Rattle.mc_driver.proofs.caller.CallerCalls.crawl.Goals as goal
 
 pub returns-clause-ok : goal.returns-clause-ok
 returns-clause-ok g c =
     crawled_ok g.N.Named.config c.args.self.now.pass c.crawl.new.pass c.crawl.ensures.caller c.crawl.ensures.grows.seen c.args.class c.args.moment c.crawl.result
-    c.requires.may c.requires.there c.crawl.ensures.calls c.crawl.ensures.crawled
+    c.requires.may c.crawl.ensures.turn.1 c.requires.there c.crawl.ensures.calls c.crawl.ensures.crawled
 
 pub returns-clause-kinds : goal.returns-clause-kinds
 returns-clause-kinds g c =
@@ -17,9 +17,7 @@ pub returns-clause-err : goal.returns-clause-err
 returns-clause-err g c =
     call_failed g.N.Named.config c.args.self.now.pass c.crawl.new.pass c.crawl.ensures.caller c.crawl.ensures.grows.seen (Crawls c.args.class) c.args.moment c.crawl.result c.crawl.ensures.cut
 
-pub returns-clause-may : goal.returns-clause-may
-returns-clause-may g c = may_again g.N.Named.config c.args.self.now.pass c.crawl.new.pass c.crawl.result c.requires.may c.crawl.ensures.turn.0
-
-pub returns-clause-full : goal.returns-clause-full
-returns-clause-full g c =
-    full_calls g.N.Named.config c.args.self.now.pass c.crawl.new.pass (crawling_of c.args.class c.args.moment) c.crawl.result c.requires.may refl c.crawl.ensures.cut c.crawl.ensures.full
+pub returns-clause-caller : goal.returns-clause-caller
+returns-clause-caller g c =
+    goes_on g.N.Named.config c.args.self.now.pass c.crawl.new.pass c.crawl.result c.requires.may c.crawl.ensures.caller c.crawl.ensures.turn.0
+    (full_calls g.N.Named.config c.args.self.now.pass c.crawl.new.pass (crawling_of c.args.class c.args.moment) c.crawl.result c.requires.may refl c.crawl.ensures.cut c.crawl.ensures.full)

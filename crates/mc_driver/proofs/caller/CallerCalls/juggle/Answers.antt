@@ -1,21 +1,19 @@
 use Rattle.std.proofs.Common.{refl}
 use Rattle.mc_script.specs.Exchanges.{Juggles}
 use Rattle.mc_store.specs.Callers.{juggling_of}
-use Rattle.mc_driver.proofs.{CalledEventLemmas.full_calls, CalledEventLemmas.may_again, SharedCallLemmas.call_failed, SharedCallLemmas.juggled_ok}
+use Rattle.mc_driver.proofs.{CalledEventLemmas.full_calls, SharedCallLemmas.call_failed, SharedCallLemmas.goes_on, SharedCallLemmas.juggled_ok}
 use Rattle.mc_driver.proofs.caller.CallerCalls.juggle.Goals as goal
 
 pub returns-clause-ok : goal.returns-clause-ok
 returns-clause-ok g c =
     juggled_ok g.N.Named.config c.args.self.now.pass c.juggle.new.pass c.juggle.ensures.caller c.juggle.ensures.grows.seen c.args.class c.args.moment c.juggle.result
-    c.requires.may c.requires.there c.juggle.ensures.calls c.juggle.ensures.juggled
+    c.requires.may c.juggle.ensures.turn.1 c.requires.there c.juggle.ensures.calls c.juggle.ensures.juggled
 
 pub returns-clause-err : goal.returns-clause-err
 returns-clause-err g c =
     call_failed g.N.Named.config c.args.self.now.pass c.juggle.new.pass c.juggle.ensures.caller c.juggle.ensures.grows.seen (Juggles c.args.class) c.args.moment c.juggle.result c.juggle.ensures.cut
 
-pub returns-clause-may : goal.returns-clause-may
-returns-clause-may g c = may_again g.N.Named.config c.args.self.now.pass c.juggle.new.pass c.juggle.result c.requires.may c.juggle.ensures.turn.0
-
-pub returns-clause-full : goal.returns-clause-full
-returns-clause-full g c =
-    full_calls g.N.Named.config c.args.self.now.pass c.juggle.new.pass (juggling_of c.args.class c.args.moment) c.juggle.result c.requires.may refl c.juggle.ensures.cut c.juggle.ensures.full
+pub returns-clause-caller : goal.returns-clause-caller
+returns-clause-caller g c =
+    goes_on g.N.Named.config c.args.self.now.pass c.juggle.new.pass c.juggle.result c.requires.may c.juggle.ensures.caller c.juggle.ensures.turn.0
+    (full_calls g.N.Named.config c.args.self.now.pass c.juggle.new.pass (juggling_of c.args.class c.args.moment) c.juggle.result c.requires.may refl c.juggle.ensures.cut c.juggle.ensures.full)

@@ -2,24 +2,22 @@ use Rattle.std.proofs.Common.{⊎_elim, inl, inr, refl}
 use Rattle.mc_script.specs.Exchanges.{Limits}
 use Rattle.mc_store.specs.Callers.{limits_of}
 use Rattle.mc_store.proofs.SeenStripeLemmas.{on_err_more}
-use Rattle.mc_driver.proofs.{CalledEventLemmas.full_calls, CalledEventLemmas.may_again, SharedCallLemmas.call_failed, SharedCallLemmas.limited_ok}
+use Rattle.mc_driver.proofs.{CalledEventLemmas.full_calls, SharedCallLemmas.call_failed, SharedCallLemmas.goes_on, SharedCallLemmas.limited_ok}
 use Rattle.mc_driver.proofs.caller.CallerCalls.limit.Goals as goal
 
 pub returns-clause-ok : goal.returns-clause-ok
 returns-clause-ok g c = λ moment.
     limited_ok g.N.Named.config c.args.self.now.pass c.chunks.new.pass c.chunks.ensures.caller c.chunks.ensures.grows.seen c.args.class c.args.chunks moment c.chunks.result
-    c.requires.may c.requires.there c.chunks.ensures.calls c.chunks.ensures.limited
+    c.requires.may c.chunks.ensures.turn.1 c.requires.there c.chunks.ensures.calls c.chunks.ensures.limited
 
 pub returns-clause-err : goal.returns-clause-err
 returns-clause-err g c = λ moment.
     call_failed g.N.Named.config c.args.self.now.pass c.chunks.new.pass c.chunks.ensures.caller c.chunks.ensures.grows.seen (Limits c.args.class c.args.chunks) moment c.chunks.result
     (on_err_more c.chunks.result _ _ (λ cut. ⊎_elim (λ same. inl same) (λ more. inr more.0) cut) c.chunks.ensures.cut)
 
-pub returns-clause-may : goal.returns-clause-may
-returns-clause-may g c = may_again g.N.Named.config c.args.self.now.pass c.chunks.new.pass c.chunks.result c.requires.may c.chunks.ensures.turn.0
-
-pub returns-clause-full : goal.returns-clause-full
-returns-clause-full g c =
-    full_calls g.N.Named.config c.args.self.now.pass c.chunks.new.pass (limits_of c.args.class c.args.chunks) c.chunks.result c.requires.may refl
+pub returns-clause-caller : goal.returns-clause-caller
+returns-clause-caller g c =
+    goes_on g.N.Named.config c.args.self.now.pass c.chunks.new.pass c.chunks.result c.requires.may c.chunks.ensures.caller c.chunks.ensures.turn.0
+    (full_calls g.N.Named.config c.args.self.now.pass c.chunks.new.pass (limits_of c.args.class c.args.chunks) c.chunks.result c.requires.may refl
     (on_err_more c.chunks.result _ _ (λ cut. ⊎_elim (λ same. inl same) (λ more. inr more.0) cut) c.chunks.ensures.cut)
-    c.chunks.ensures.full
+    c.chunks.ensures.full)
