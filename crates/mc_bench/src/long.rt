@@ -1,9 +1,6 @@
 //! Many commands on one store that lets its events go, and the memory that it takes.
-ghost use Rattle.std.specs.Prelude.{◌≡◌, length};
-ghost use Rattle.mc_item.specs.Config.{IsBounded, IsSound};
-ghost use Rattle.mc_board.specs.{Histories.blind, Views.locks_of, Views.AreOwners};
-ghost use Rattle.mc_hits.specs.Views.{AreHands, tables_of};
-ghost use Rattle.mc_store.specs.Locked.{histories_for};
+ghost use Rattle.std.specs.Prelude.{◌≡◌};
+ghost use Rattle.mc_store.specs.Opening.{AreParts};
 
 use crate::lists::{checked, peak};
 use crate::{nanos_each, print_row};
@@ -153,12 +150,7 @@ struct Parts {
 // Opens a store, sets each key, and then makes each load's commands.
 fn run<N: Named>(rt: &HostRuntime, wait: &impl Wait, parts: Parts) -> io::Result<()>
     requires named { (parts.tokens.board ≡ N.board) × (parts.config ≡ N.config) × (parts.tokens.queues ≡ N.queues) }
-    requires sound { IsBounded N.config × IsSound N.config }
-    requires locks { locks_of N.board.counts ≡ histories_for N.config }
-    requires owners { AreOwners N.board.table (histories_for N.config) parts.tokens.owners.items }
-    requires seen { parts.tokens.seen ≡ record { board = N.board.table; sight = blind } }
-    requires queues { length N.queues ≡ length N.config.sizes }
-    requires hands { AreHands (tables_of N.queues) N.config.callers parts.tokens.hands.items }
+    requires fit { AreParts N.board N.config N.queues parts.tokens }
 {
     let Parts {
         config,

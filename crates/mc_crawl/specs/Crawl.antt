@@ -1,6 +1,7 @@
 -- What the crawl of a link changes in a class and in a gate's answers, and the kind that the link counts as.
 use Rattle.std.specs.Prelude.{ℕ, ◌≡◌, ◌+◌, ◌++◌, List, [], ◌∷◌, Option, Some, None, length}
-use Rattle.mc_item.specs.declared.{class_event.ClassEvent.ClassEvent, config.Config.Config, item.StripeNo.StripeNo, item.Who.Who, lists.Entry.Entry}
+use Rattle.mc_item.specs.declared.{class_event.ClassEvent.ClassEvent, config.Config.Config, counts.Histogram.Histogram}
+use Rattle.mc_item.specs.declared.{item.StripeNo.StripeNo, item.Who.Who, lists.Entry.Entry}
 use Rattle.mc_item.specs.declared.class_event.ClassEvent.TheVariants as events
 use Rattle.mc_item.specs.Measure.{stripe_of}
 use Rattle.mc_rule.specs.Lists.{lists_of}
@@ -10,7 +11,7 @@ use Rattle.mc_pull.specs.declared.{judge.Judge.TheVariants.Dead, looking.Answer.
 use Rattle.mc_pull.specs.{Looks.IsJudged, Looks.answer_by, Looks.events_if, Question.Question, Question.question, Settled.class_with}
 use Rattle.mc_crawl.specs.declared.kind.Kind.{Kind}
 use Rattle.mc_crawl.specs.declared.kind.Kind.TheVariants as kinds
-use Rattle.mc_crawl.specs.CrawlKind.{kind_of}
+use Rattle.mc_crawl.specs.{CrawlCount.counted_as, CrawlKind.kind_of}
 use Rattle.mc_pull.specs.declared.context.Context.{Context}
 
 -- a crawl of a link: the call that makes it, the link's number, the time, and the configuration
@@ -86,3 +87,11 @@ pub record Reclaims (who : Who) (moment : ℕ) (old new : List ClassEvent) (befo
   pub each : AreReclaims who moment events
   pub history_is : new ≡ old ++ events
   pub count : after ≡ before + length events
+
+-- a link was crawled, and the histogram counts one more link, as the kind that was found; what was reclaimed has its events
+pub record HasCounted (q : Crawl) (c c_new : ClassView) (xs ys : List Answer) (histogram histogram_new : Histogram) : Type 0 where
+  pub kind : Kind
+  pub crawled : IsCrawled q c c_new xs ys kind
+  pub counts : histogram_new ≡ counted_as kind histogram
+  pub seen : histogram_new.seen ≡ histogram.seen + 1
+  pub reclaims : Reclaims q.who q.moment c.history c_new.history histogram.reclaimed histogram_new.reclaimed

@@ -5,12 +5,10 @@ ghost use Rattle.mc_item.specs.Config.{IsSound};
 ghost use Rattle.mc_driver.specs.{Input.IsConversed, Input.OfAllBytes, Run.limits_of};
 
 use crate::live::Live;
-use crate::running::{limits_for, run_ends};
+use crate::running::{Host, limits_for, run_ends};
 use mc_item::NoMemory;
 use mc_options::Plan;
 use mc_script::Outcome;
-use std::alloc::Global;
-use std::hash::RandomState;
 use std::io::{Read, Write};
 use std::mem;
 use std::sync::Wait;
@@ -31,9 +29,7 @@ fn only<E: Drop>(items: Vec<E>) -> E
 // Runs a conversation, and gives its ends back. `outcomes` stays `None` if there was no memory for it. Then nothing is read or
 // written. (Callers learn where a returned struct's references end only if it is the whole result.)
 fn talk<'a, T: Threads + Wait + Sync, R: Read + Send, W: Write + Send>(
-    rt: &T,
-    alloc: Global,
-    seed: RandomState,
+    host: Host<'_, T>,
     plan: Plan,
     outcomes: &mut Option<Vec<Outcome>>,
     live: Live<'a, R, W>,
@@ -43,18 +39,17 @@ fn talk<'a, T: Threads + Wait + Sync, R: Read + Send, W: Write + Send>(
     requires not_yet { outcomes.old ≡ None }
     requires none { (live.failed ≡ false) × (live.came ≡ []) × (live.put ≡ []) × (live.faults ≡ []) }
     requires limits { live.limits.value ≡ limits_of plan.config }
-    ensures reader { result.reader.ghost_name ≡ live.entry.reader.ghost_name }
-    ensures writer { result.writer.ghost_name ≡ live.entry.writer.ghost_name }
+    ensures same { (result.reader.ghost_name ≡ live.entry.reader.ghost_name) × (result.writer.ghost_name ≡ live.entry.writer.ghost_name) }
     ensures ok { IfSome outcomes.new (λ ended. OfAllBytes (R.remaining live.entry.reader.now) (λ input. IsConversed plan.config plan.upkeep input
         (W.contents live.entry.writer.now) (W.contents result.writer.now) ended.items)) }
     ensures none { outcomes.new ≡ None → result.writer.now ≡ live.entry.writer.now }
 {
-    let Ok(mut scripts) = Vec::with_capacity(alloc, 1) else {
+    let Ok(mut scripts) = Vec::with_capacity(host.alloc, 1) else {
         return live;
     };
     scripts.push_reserved(live);
     let Plan { config, upkeep, .. } = plan;
-    match run_ends(rt, alloc, config, seed, scripts, upkeep.as_slice()) {
+    match run_ends(host, config, scripts, upkeep.as_slice()) {
         Ok(run) => {
             mem::forget(run.ledger);
             *outcomes = Some(run.outcomes);
@@ -69,9 +64,7 @@ fn talk<'a, T: Threads + Wait + Sync, R: Read + Send, W: Write + Send>(
 /// ended. The store's memory isn't freed.
 /// Errors: `NoMemory` before anything is read. Then nothing is written.
 pub(crate) fn converse<T: Threads + Wait + Sync, R: Read + Send, W: Write + Send>(
-    rt: &T,
-    alloc: Global,
-    seed: RandomState,
+    host: Host<'_, T>,
     plan: Plan,
     reader: &mut R,
     writer: &mut W,
@@ -82,9 +75,9 @@ pub(crate) fn converse<T: Threads + Wait + Sync, R: Read + Send, W: Write + Send
         (λ input. IsConversed plan.config plan.upkeep input (W.contents writer.old) (W.contents writer.new) outcomes.items)) }
     ensures err { OnErr result (Keeps (W.contents writer.old) (W.contents writer.new)) }
 {
-    let live = Live::new(alloc, &limits_for(&plan.config), reader, writer);
+    let live = Live::new(host.alloc, &limits_for(&plan.config), reader, writer);
     let mut outcomes = None;
-    let live = talk(rt, alloc, seed, plan, &mut outcomes, live);
+    let live = talk(host, plan, &mut outcomes, live);
     live.hang_up();
     match outcomes {
         Some(outcomes) => Ok(outcomes),

@@ -18,7 +18,7 @@ use crate::fault::RunFault;
 use crate::memory::{Kept, Pieces};
 use crate::printing::print_scripts;
 use crate::reading::read_pieces;
-use crate::running::Run;
+use crate::running::{Host, Run};
 use clap::Error;
 use clap::error::ErrorKind;
 use mc_options::{Plan, WordsFault, read_words};
@@ -157,18 +157,14 @@ fn print_answered<R: Wait, L: Ledger, W: Write, E: Write>(
 
 // Runs the scripts of an input, and prints their replies.
 fn run_input<R: Threads + Wait + Sync, L: Ledger + Send + Sync, W: Write, E: Write>(
-    rt: &R,
-    alloc: Global,
-    seed: RandomState,
+    host: Host<'_, R>,
     plan: Plan,
     input: VecDeque<Vec<u8>>,
     blank: Blank,
     writer: &mut W,
     errors: &mut E,
 ) -> u8
-    requires name { blank.name ≡ L.name }
-    requires parts { blank.parts ≡ L.parts }
-    requires some { 62 ≤ blank.parts }
+    requires blank { (blank.name ≡ L.name) × (blank.parts ≡ L.parts) × (62 ≤ blank.parts) }
     requires sound { IsSound plan.config }
     requires early { All (λ moment. moment ≤ 2 ^ 62) plan.upkeep }
     ensures done { result ≡ 0 → IsInputAnswered false plan.config plan.upkeep (flat_map (λ v. v.items) input.items) (W.contents writer.old)
@@ -179,11 +175,9 @@ fn run_input<R: Threads + Wait + Sync, L: Ledger + Send + Sync, W: Write, E: Wri
     ensures kept { result ≡ 2 → Keeps (W.contents writer.old) (W.contents writer.new) }
     ensures few { result ≤ 3 }
 {
-    let Plan { config, upkeep, .. } = plan;
     let (book, share) = blank.open::<L>();
     let book = Mutex::new(book);
-    let upkeep = upkeep.as_slice();
-    let run = match run_cut(rt, alloc, config, seed, input, upkeep, &book, share) {
+    let run = match run_cut(host, plan, input, &book, share) {
         Ok(run) => run,
         Err(fault) => return say_fault(fault, errors),
     };
@@ -195,9 +189,7 @@ fn run_input<R: Threads + Wait + Sync, L: Ledger + Send + Sync, W: Write, E: Wri
 
 // Runs an input as a conversation: its requests are answered as they come.
 fn run_conversation<T: Threads + Wait + Sync, R: Read + Send, W: Write + Send, E: Write>(
-    rt: &T,
-    alloc: Global,
-    seed: RandomState,
+    host: Host<'_, T>,
     plan: Plan,
     reader: &mut R,
     writer: &mut W,
@@ -212,7 +204,7 @@ fn run_conversation<T: Threads + Wait + Sync, R: Read + Send, W: Write + Send, E
     ensures never { result ≢ 2 }
     ensures few { result ≤ 3 }
 {
-    match converse(rt, alloc, seed, plan, reader, writer) {
+    match converse(host, plan, reader, writer) {
         Ok(outcomes) => say_outcomes(outcomes.as_slice(), true, errors),
         Err(_) => say_line(errors, MEMORY, 1),
     }
@@ -267,8 +259,9 @@ pub fn run_words<T: Threads + Wait + Sync, R: Read + Send, W: Write + Send, E: W
             return say_line(errors, MEMORY, 1);
         }
     };
+    let host = Host { rt, alloc, seed };
     if plan.follow {
-        return run_conversation(rt, alloc, seed, plan, reader, writer, errors);
+        return run_conversation(host, plan, reader, writer, errors);
     }
     let input = match read_pieces(alloc, reader) {
         Ok(input) => input,
@@ -279,14 +272,6 @@ pub fn run_words<T: Threads + Wait + Sync, R: Read + Send, W: Write + Send, E: W
             return say_line(errors, INPUT, 3);
         }
     };
-    run_input::<T, Brand, W, E>(
-        rt,
-        alloc,
-        seed,
-        plan,
-        input,
-        Blank::new(MOST_SCRIPTS as u64),
-        writer,
-        errors,
-    )
+    let blank = Blank::new(MOST_SCRIPTS as u64);
+    run_input::<T, Brand, W, E>(host, plan, input, blank, writer, errors)
 }

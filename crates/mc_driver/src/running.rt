@@ -1,13 +1,11 @@
 //! Runs scripts at once on one store.
 ghost use Rattle.std.specs.Prelude.{◌≡◌, ◌≢◌, ◌+◌, ◌<◌, ◌≤◌, ◌^◌, ℕ, [], IfOk, IfErr, Some, None, length, slice_index_or, slice_get};
 ghost use Rattle.std.specs.List.{All};
-ghost use Rattle.mc_item.specs.Config.{fault_of, IsBounded, IsSound};
-ghost use Rattle.mc_board.specs.{Histories.blind, Views.AreOwners, Views.locks_of};
-ghost use Rattle.mc_hits.specs.Views.{AreHands, tables_of};
+ghost use Rattle.mc_item.specs.Config.{fault_of, IsBounded};
 ghost use Rattle.mc_script.specs.Run.{AreCounted, HasLeft};
 ghost use Rattle.mc_script.specs.declared.{outcome.Outcome.Outcome, upkeep.Keeper.TheVariants.Crawler, upkeep.Keeper.TheVariants.Maintainer};
 ghost use Rattle.mc_script.specs.declared.outcome.Outcome.TheVariants as outcomes;
-ghost use Rattle.mc_store.specs.{Finals.AreClasses, Finals.AreStripes, Locked.histories_for, Passes.PassView};
+ghost use Rattle.mc_store.specs.{Finals.AreClasses, Finals.AreStripes, Opening.AreParts, Passes.PassView};
 ghost use Rattle.mc_driver.specs.Called.{AreByCallers, AreItsCalls, AreWholeTurns, HasNoPlace, IsCompared};
 ghost use Rattle.mc_driver.specs.{Jobs.MayRunAll, Left.AreKeepersDone, Left.IsKeptUp, Left.IsRunDone};
 ghost use Rattle.mc_driver.specs.Run.{IsAccepted, IsRefused, IsStore, callers_at_work, histories_left, limits_of, with_callers};
@@ -24,6 +22,14 @@ use std::hash::RandomState;
 use std::marker::Brand;
 use std::sync::Wait;
 use std::thread::Threads;
+
+/// What each run gets from its host: the runtime, the allocator, and the seed of the store's hash. No clause names them.
+#[derive_where(Clone, Copy)]
+pub(crate) struct Host<'a, R> {
+    pub(crate) rt: &'a R,
+    pub(crate) alloc: Global,
+    pub(crate) seed: RandomState,
+}
 
 /// What a run leaves: the closed store, the outcomes of scripts, maintainer and crawler in this order, and the scripts' ends.
 #[derive(Drop)]
@@ -92,21 +98,14 @@ pub(crate) struct Unrun<E: Drop> {
 // Opens a store with the board, the queues and the configuration that `N` names, runs scripts and upkeep as its callers, and
 // closes it. If there is no memory for that, it returns the scripts' ends before any of them runs.
 fn run_named<N: Named + Send + Sync, E: Ends + Send, R: Threads + Wait + Sync>(
-    rt: &R,
-    alloc: Global,
+    host: Host<'_, R>,
     config: Config,
     tokens: Tokens,
-    seed: RandomState,
     scripts: Vec<E>,
     upkeep: &[u64],
 ) -> Result<Run<E>, Vec<E>>
-    requires board { tokens.board ≡ N.board }
-    requires config { (config ≡ N.config) × IsBounded N.config × IsSound N.config }
-    requires locks { locks_of N.board.counts ≡ histories_for N.config }
-    requires owners { AreOwners N.board.table (histories_for N.config) tokens.owners.items }
-    requires seen { tokens.seen ≡ record { board = N.board.table; sight = blind } }
-    requires queues { (tokens.queues ≡ N.queues) × (length N.queues ≡ length N.config.sizes) }
-    requires hands { AreHands (tables_of N.queues) N.config.callers tokens.hands.items }
+    requires named { (tokens.board ≡ N.board) × (config ≡ N.config) × (tokens.queues ≡ N.queues) }
+    requires fit { AreParts N.board N.config N.queues tokens }
     requires callers { N.config.callers ≡ length scripts.items + 2 }
     requires early { All (λ moment. moment ≤ 2 ^ 62) upkeep.now }
     requires asks { MayRunAll E.gave E.taken E.reads E.writes E.over E.may_ask (limits_of N.config) scripts.items }
@@ -114,6 +113,7 @@ fn run_named<N: Named + Send + Sync, E: Ends + Send, R: Threads + Wait + Sync>(
         run.ledger) }
     ensures err { IfErr result (λ back. back.items ≡ scripts.items) }
 {
+    let Host { rt, alloc, seed } = host;
     let limits = limits_for(&config);
     let threads = threads_for(scripts.len(), upkeep.len());
     let Ok((store, passes)) = Store::<N>::open(alloc, config, tokens, seed) else {
@@ -144,10 +144,8 @@ fn run_named<N: Named + Send + Sync, E: Ends + Send, R: Threads + Wait + Sync>(
 
 /// Runs scripts as `run_scripts` does. If they aren't run, it returns their ends, too.
 pub(crate) fn run_ends<E: Ends + Send, R: Threads + Wait + Sync>(
-    rt: &R,
-    alloc: Global,
+    host: Host<'_, R>,
     config: Config,
-    seed: RandomState,
     scripts: Vec<E>,
     upkeep: &[u64],
 ) -> Result<Run<E>, Unrun<E>>
@@ -175,13 +173,13 @@ pub(crate) fn run_ends<E: Ends + Send, R: Threads + Wait + Sync>(
             });
         }
     };
-    let Ok(tokens) = Tokens::open(alloc, &config) else {
+    let Ok(tokens) = Tokens::open(host.alloc, &config) else {
         return Err(Unrun {
             fault: RunFault::NoMemory,
             ends: scripts,
         });
     };
-    match run_named::<Brand, E, R>(rt, alloc, config, tokens, seed, scripts, upkeep) {
+    match run_named::<Brand, E, R>(host, config, tokens, scripts, upkeep) {
         Ok(run) => Ok(run),
         Err(ends) => Err(Unrun {
             fault: RunFault::NoMemory,
@@ -255,7 +253,7 @@ pub fn run_scripts<E: Ends + Send, R: Threads + Wait + Sync>(
     ensures ends { IfOk result (λ run. length run.ends.items ≡ length scripts.items) }
     ensures store { IfOk result (λ run. IsStore (with_callers (length scripts.items) config) run.ledger) }
 {
-    match run_ends(rt, alloc, config, seed, scripts, upkeep) {
+    match run_ends(Host { rt, alloc, seed }, config, scripts, upkeep) {
         Ok(run) => Ok(run),
         Err(unrun) => Err(unrun.fault),
     }

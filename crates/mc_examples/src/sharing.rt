@@ -1,7 +1,7 @@
 //! A store that threads share: two of them count visits, and a third caller reads.
 ghost use Rattle.std.specs.Prelude.{◌≡◌, ◌<◌, IfSome, length};
 ghost use Rattle.mc_item.specs.Config.{IsBounded, IsSound};
-ghost use Rattle.mc_examples.specs.Parts.{AreParts};
+ghost use Rattle.mc_store.specs.Opening.{AreParts};
 
 use crate::no_memory;
 use mc_board::{Busy, Figures};

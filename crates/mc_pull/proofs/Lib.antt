@@ -5,6 +5,7 @@ mod WarmLemmas
 mod JudgementKeepsLemmas
 pub mod LengthLemmas
 pub mod GrowthLemmas
+pub mod LeavesGateLemmas
 pub mod ChunkEventLemmas
 pub mod AdvanceLemmas
 pub mod WalkAnswerLemmas

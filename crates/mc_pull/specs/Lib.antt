@@ -15,6 +15,7 @@ pub mod Rounds
 pub mod Tried
 pub mod Juggle
 pub mod Broken
+pub mod Gates
 pub mod Lone
 pub mod Lent
 pub mod Parts

@@ -5,7 +5,9 @@ use Rattle.mc_item.specs.declared.{stripe_event.Cause.TheVariants.Expired, strip
 use Rattle.mc_item.specs.declared.stripe_event.StripeEvent.TheVariants as events
 use Rattle.mc_rule.specs.{Agreement.Agree, Segment.Rule}
 use Rattle.mc_stripe.specs.{StripeState.Stripe, StripeCalls.KeepsSite}
-use Rattle.mc_pull.specs.{Question.IsStripeOf, Walker.Walker}
+use Rattle.mc_segment.specs.ClassState.{ClassView}
+use Rattle.mc_pull.specs.declared.lone.Lone.{Lone}
+use Rattle.mc_pull.specs.{Question.IsClassOf, Question.IsStripeOf, Walker.Walker}
 
 -- the stripe has this number, and was made with this configuration
 pub record Serves (number : ℕ) (s : Stripe) (config : Config) : Type 0 where
@@ -41,3 +43,15 @@ pub record Walked (w : Walker) (s : Stripe) (history : List ClassEvent) (s_new :
   pub own : Agree s.site w.rule w.class s.history history → Agree s.site w.rule w.class s_new.history history_new
   pub others : (other : ClassNo) (rule : Rule) (entries : List ClassEvent) → other ≢ w.class → Agree s.site rule other s.history entries
       → Agree s.site rule other s_new.history entries
+
+-- a class may be walked through a gate that is lent one stripe: both were made with this configuration
+pub record IsServedAlone (gate : Lone) (config : Config) (c : ClassView) : Type 0 where
+  pub class : IsClassOf config c
+  pub serves : Serves gate.number.0 gate.stripe.now config
+
+-- what a walker leaves of a gate that is lent one stripe, and of a class's history: the gate holds and serves the stripe still, and
+-- the walker did no more than `Walked` says
+pub record LeavesAlone (w : Walker) (config : Config) (gate : Lone) (history : List ClassEvent) (gate_new : Lone) (history_new : List ClassEvent) : Type 0 where
+  pub holds : gate_new.stripe.ghost_name ≡ gate.stripe.ghost_name
+  pub walked : Walked w gate.stripe.now history gate_new.stripe.now history_new
+  pub serves : Serves gate_new.number.0 gate_new.stripe.now config

@@ -32,6 +32,11 @@ abbrev pub MayFail : ClassView → Stripe → Fault → Type 0
 MayFail c s HistoryFull = (c.max_events ≤ length c.history) ⊎ (s.limit ≤ length s.history)
 MayFail c s NoMemory = Unit {0}
 
+-- why a judgement failed: what was to be done may be refused like this, and `HistoryFull` means that a history is full as it is left
+pub record Refuses (c c_new : ClassView) (s s_new : Stripe) (d : Done) (fault : Fault) : Type 0 where
+  pub full : MayFail c_new s_new fault
+  pub refusal : MayRefuseFor c s d fault
+
 -- the fault that may be returned if only a class may gain events: `HistoryFull` only if it is full
 abbrev pub MayFailAlone : ClassView → Fault → Type 0
 MayFailAlone c HistoryFull = c.max_events ≤ length c.history

@@ -5,8 +5,8 @@ use Rattle.std.specs.Prelude.{◌≡◌, ◌≢◌, List}
 use Rattle.mc_item.specs.declared.{answer.Site.Site, class_event.ClassEvent.ClassEvent, item.ClassNo.ClassNo, stripe_event.StripeEvent.StripeEvent}
 use Rattle.mc_rule.specs.{Cited.IsSuited, Evidence.IsBacked, Evidence.HasTrace, Places.Each, Segment.Rule}
 use Rattle.mc_segment.specs.ClassState.{ClassView}
-use Rattle.mc_stripe.specs.StripeState.{Stripe}
-use Rattle.mc_pull.specs.{Agreeing.HasRefusal, Agreeing.IsApart, Lent.EachPair, Perform.Call}
+use Rattle.mc_stripe.specs.{StripeCalls.KeepsSite, StripeState.Stripe}
+use Rattle.mc_pull.specs.{Agreeing.HasRefusal, Agreeing.IsApart, Agreeing.KeepsAgreement, Lent.EachPair, Perform.Call}
 
 -- a class, as it is seen, still has the partners of all the stripe's events, if it had them before
 abbrev pub TellsStill : Stripe → Stripe → Rule → ClassNo → List ClassEvent → Type 0
@@ -29,6 +29,12 @@ pub record KeepsSight (c c_new : ClassView) (s s_new : Stripe) : Type 0 where
   pub told : (other : ClassNo) (rule : Rule) (seen : List ClassEvent) → other ≢ c.number → TellsStill s s_new rule other seen
   pub backed : BacksStill s.site c c_new
   pub suited : SuitsStill s.site c c_new
+
+-- a step on a class and a stripe leaves the stripe's site as it is, and keeps agreement and evidence
+pub record KeepsPartners (c c_new : ClassView) (s s_new : Stripe) : Type 0 where
+  pub site : KeepsSite s s_new
+  pub agreement : KeepsAgreement c c_new s s_new
+  pub sight : KeepsSight c c_new s s_new
 
 -- a call keeps the evidence in all other stripes, and in each class not lent to it that has the refusal its room may name
 pub record KeepsSights (c : Call) (s s_new : Stripe) (vs ws : List ClassView) : Type 0 where

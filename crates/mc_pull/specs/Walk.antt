@@ -1,5 +1,6 @@
 -- A walk along a list from its tail, as a function of a gate's answers.
-use Rattle.std.specs.Prelude.{ℕ, ◌≡◌, ◌-◌, ◌++◌, List, [], ◌∷◌, Bool, true, false, ◌&&◌, not, nat_lt, nat_le, Option, Some, None, length, min, take, reverse}
+use Rattle.std.specs.Prelude.{ℕ, ◌≡◌, ◌<◌, ◌≤◌, ◌-◌, ◌++◌, List, [], ◌∷◌, Bool, true, false, ◌&&◌, not, nat_lt, nat_le, Option, Some, None, length}
+use Rattle.std.specs.Prelude.{min, reverse, take}
 use Rattle.std.specs.Option.{IsSomeAnd}
 use Rattle.mc_item.specs.declared.{class_event.ClassEvent.ClassEvent, config.Config.Config, item.Who.Who, lists.Entry.Entry, lists.Seg.Seg}
 use Rattle.mc_item.specs.Measure.{stripe_of}
@@ -7,7 +8,8 @@ use Rattle.mc_rule.specs.{Lists.chunks_from, Lists.lists_of, Lists.list_of, List
 use Rattle.mc_segment.specs.ClassState.{ClassView}
 use Rattle.mc_pull.specs.declared.{judge.Judge.TheVariants.Walk, judge.Mode.Mode, judge.Mode.TheVariants.Plain, judge.Mode.TheVariants.Evict}
 use Rattle.mc_pull.specs.declared.{judge.Mode.TheVariants.Force, looking.Answer.Answer, looking.Judged.Judged, pulled.Pulled.Pulled}
-use Rattle.mc_pull.specs.{Looks.events_if, Looks.IsJudgedIf, Pulled.none_pulled, Pulled.counts_if, Pulled.is_end_if, Question.Question, Question.question}
+use Rattle.mc_pull.specs.{Looks.events_if, Looks.IsJudgedIf, Pulled.none_pulled, Pulled.counts_if, Pulled.is_end_if}
+use Rattle.mc_pull.specs.Question.{MayWalk, Question, question}
 use Rattle.mc_pull.specs.declared.context.Context.{Context}
 
 -- what is fixed for a walk: the class, the list, the mode, the caller's call, its time and the configuration
@@ -63,6 +65,14 @@ abbrev pub is_wanted : Mode → ℕ → List ClassEvent → Bool
 is_wanted (Plain survey) chunks history = true
 is_wanted Evict chunks history = nat_le (chunks_from chunks history) (count_of (lists_of history))
 is_wanted Force chunks history = nat_le (chunks_from chunks history) (count_of (lists_of history))
+
+-- a call's walk may look at one more entry: its list may be walked so, it is still wanted, has passed at most four entries, and
+-- the list has more than those
+pub record MayLookNext (c : ClassView) (seg : Seg) (mode : Mode) (context : Context) (pulled : Pulled) : Type 0 where
+  pub walk : MayWalk c seg mode context.turn.who context.turn.moment
+  pub wanted : is_wanted mode c.chunks c.history ≡ true
+  pub few : pulled.passed ≤ 4
+  pub there : pulled.passed < length (list_of (lists_of c.history) seg)
 
 -- a walk goes on: it hasn't ended, may look at one more entry, and is still wanted
 abbrev pub is_going : Pull → Way → Bool

@@ -3,7 +3,7 @@ ghost use Rattle.std.specs.Prelude.{◌≡◌, false, IfOk, IfErr, IfSome, OnErr
 ghost use Rattle.mc_item.specs.declared.lists.Seg.TheVariants.{Cold};
 ghost use Rattle.mc_rule.specs.Lists.{find, found, lists_of};
 ghost use Rattle.mc_segment.specs.ClassState.{with_room};
-ghost use Rattle.mc_pull.specs.{Advance.IsAdvance, Advance.MovesIf, Growth.GainsFor, Growth.KeepsSince, Question.question_by, Question.IsClassOf};
+ghost use Rattle.mc_pull.specs.{Advance.IsAdvance, Advance.MovesIf, Growth.GainsFor, Gates.IsServedBy, Gates.LeavesGate, Question.question_by};
 ghost use Rattle.mc_pull.specs.{Walker.walker_by};
 ghost use Rattle.mc_pull.specs.Advance as words;
 ghost use Rattle.mc_pull.specs.declared.judge.Judge.TheVariants as judges;
@@ -59,17 +59,14 @@ pub fn advance<G: Gate>(
     number: u64,
     gate: &mut G,
 ) -> Result<bool, Fault>
-    requires config { IsClassOf context.config.now class.old }
-    requires gate { G.serves gate.old context.config.now class.old }
+    requires gate { IsServedBy G.serves context.config.now gate.old class.old }
     ensures advanced { IfOk result (IsAdvance (question_by context.entry number judges.Hit) context.entry.config.now class.old class.new (G.answers gate.old)
         (G.answers gate.new)) }
     ensures moves { IfOk result (MovesIf (question_by context.entry number judges.Hit) class.old.history class.new.history) }
     ensures err { OnErr result ((class.new ≡ with_room class.old class.new.room) × (G.answers gate.new ≡ G.answers gate.old)) }
     ensures gains { GainsFor false class.old class.new }
     ensures fault { IfErr result (G.faults gate.new class.new) }
-    ensures holds { G.references gate.new ≡ G.references gate.old }
-    ensures serves { G.serves gate.new context.entry.config.now class.new }
-    ensures kept { KeepsSince (G.keeps (walker_by class.old context.entry)) gate.old class.old.history gate.new class.new.history }
+    ensures gate { LeavesGate G.references G.serves G.keeps context.entry.config.now (walker_by class.old context.entry) gate.old class.old gate.new class.new }
 {
     let Some(entry) = cold_entry(class, number) else {
         return Ok(false);

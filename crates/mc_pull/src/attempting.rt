@@ -163,7 +163,7 @@ fn make_part(class: &mut ClassState, keys: Keys, room: Room, fate: Fate, turn: T
     ensures { class.new ≡ class_with class.old (words.part_events class.old turn.who turn.moment (part_for class.old keys.key room fate)) class.new.room }
 {
     let part = part_after(class, keys.key, room, fate);
-    make(class, part, keys.copy, turn.who, turn.moment);
+    make(class, part, keys.copy, turn);
 }
 
 /// Tries a command that is lent no class. Returns its reply and what its hit woke, or, with nothing done, what it wants first.
@@ -191,26 +191,39 @@ pub fn attempt_none(stripe: &mut StripeState, command: &Command, turn: Turn) -> 
     }
 }
 
-/// Tries a command that is lent one class. `given` is what the class offers, and it must have room for that (`ready`). Returns
-/// the command's reply and what its hit woke, or, with nothing done, what it wants first.
+/// What is fixed for one try: the allocator, the command, who makes it and when, and what the lent classes offer.
+#[derive(Clone, Copy)]
+pub struct Attempt<'a> {
+    pub alloc: Global,
+    pub command: &'a Command,
+    pub turn: Turn,
+    pub given: Given,
+}
+
+/// Tries a command that is lent one class, which must have room for what it offers (`ready`). Returns the command's reply and
+/// what its hit woke, or, with nothing done, what it wants first.
 /// Errors: `NoMemory`; `HistoryFull` only if the stripe's history has no place left. No history has changed then.
 #[inline(always)]
 pub fn attempt_one(
-    alloc: Global,
+    attempt: Attempt<'_>,
     stripe: &mut StripeState,
     class: &mut ClassState,
-    command: &Command,
-    turn: Turn,
-    given: Given,
 ) -> Result<Tried, Fault>
-    requires may { MayTryOn stripe.old (class.old ∷ []) command.now turn given }
-    requires room { HasRoomFor given class.old }
+    requires may { MayTryOn stripe.old (class.old ∷ []) attempt.command.now attempt.turn attempt.given }
+    requires room { HasRoomFor attempt.given class.old }
     ensures tried { (config : Config) → IsStripeOf config stripe.old → IsClassOf config class.old
-        → IfOk result (IsTriedBy config stripe.old stripe.new command.now turn given (class.old ∷ []) (class.new ∷ [])) }
+        → IfOk result (IsTriedBy config stripe.old stripe.new attempt.entry.command.now attempt.entry.turn attempt.entry.given (class.old ∷ []) (class.new
+        ∷ [])) }
     ensures err { OnErr result (IsUntouched stripe.old stripe.new (class.old ∷ []) (class.new ∷ [])) }
     ensures full { IsErrOf result HistoryFull → stripe.old.limit ≤ length stripe.old.history }
     ensures site { KeepsSite stripe.old stripe.new }
 {
+    let Attempt {
+        alloc,
+        command,
+        turn,
+        given,
+    } = attempt;
     class.law();
     stripe.history();
     let keys = keys_for(alloc, class, command)?;
@@ -230,22 +243,26 @@ pub fn attempt_one(
 /// Tries a command that is lent two classes. All else is as for `attempt_one`.
 #[inline(never)]
 pub fn attempt_two(
-    alloc: Global,
+    attempt: Attempt<'_>,
     stripe: &mut StripeState,
     home: &mut ClassState,
     other: &mut ClassState,
-    command: &Command,
-    turn: Turn,
-    given: Given,
 ) -> Result<Tried, Fault>
-    requires may { MayTryOn stripe.old (home.old ∷ other.old ∷ []) command.now turn given }
-    requires room { HasRoomFor given home.old × HasRoomFor given other.old }
+    requires may { MayTryOn stripe.old (home.old ∷ other.old ∷ []) attempt.command.now attempt.turn attempt.given }
+    requires room { HasRoomFor attempt.given home.old × HasRoomFor attempt.given other.old }
     ensures tried { (config : Config) → IsStripeOf config stripe.old → IsClassOf config home.old → IsClassOf config other.old
-        → IfOk result (IsTriedBy config stripe.old stripe.new command.now turn given (home.old ∷ other.old ∷ []) (home.new ∷ other.new ∷ [])) }
+        → IfOk result (IsTriedBy config stripe.old stripe.new attempt.entry.command.now attempt.entry.turn attempt.entry.given (home.old ∷ other.old ∷ [])
+        (home.new ∷ other.new ∷ [])) }
     ensures err { OnErr result (IsUntouched stripe.old stripe.new (home.old ∷ other.old ∷ []) (home.new ∷ other.new ∷ [])) }
     ensures full { IsErrOf result HistoryFull → stripe.old.limit ≤ length stripe.old.history }
     ensures site { KeepsSite stripe.old stripe.new }
 {
+    let Attempt {
+        alloc,
+        command,
+        turn,
+        given,
+    } = attempt;
     home.law();
     other.law();
     stripe.history();

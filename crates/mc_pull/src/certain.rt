@@ -8,17 +8,18 @@ ghost use Rattle.mc_segment.specs.ClassCalls.{linked_event, unlinked_event, recl
 ghost use Rattle.mc_pull.specs.Settled.{lost_event, cooled_event};
 ghost use Rattle.mc_stripe.specs.{StripeState.cache_now, StripeCalls.KeepsSite, StripeCalls.Gains};
 
+use crate::judge::Ask;
 use mc_item::{ClassNo, Expiry, Key, Passed, Seg, Who, Why};
 use mc_segment::ClassState;
-use mc_stripe::StripeState;
+use mc_stripe::{StripeState, Turn};
 
+// Adds an entry.
 pub(crate) fn link(
     class: &mut ClassState,
-    who: Who,
+    turn: Turn,
     key: Key,
     copy: Option<Key>,
     cost: u64,
-    moment: u64,
     expiry: Expiry,
 )
     requires copy { class.old.keeps_events ≡ true → copy ≡ Some key }
@@ -26,10 +27,10 @@ pub(crate) fn link(
     requires place { HasPlaces class.old 1 }
     requires free { HasFree class.old.chunks class.old.history }
     requires cost { cost ≤ 2 ^ 20 }
-    ensures event { class.new ≡ appended class.old (linked_event class.old who key cost moment expiry) class.new.room }
+    ensures event { class.new ≡ appended class.old (linked_event class.old turn.who key cost turn.moment expiry) class.new.room }
     ensures room { class.old.room ≤ class.new.room + 1 }
 {
-    match class.link(who, key, copy, cost, moment, expiry) {
+    match class.link(turn.who, key, copy, cost, turn.moment, expiry) {
         Ok(_) => {}
         Err(_) => unreachable!(),
     }
@@ -74,24 +75,23 @@ pub(crate) fn evict(class: &mut ClassState, who: Who, number: u64, passed: Passe
     }
 }
 
+// Moves the entry that was asked about.
 pub(crate) fn shift(
     class: &mut ClassState,
-    who: Who,
-    number: u64,
+    ask: &Ask<'_>,
     to_seg: Seg,
     why: Why,
-    moment: u64,
     passed: Passed,
     at: u64,
 )
     requires room { 0 < class.old.room }
     requires place { HasPlaces class.old 1 }
-    requires lawful { IsSomeAnd (segment_of number (lists_of class.old.history))
-        (λ from_seg. MayCome class.old (shifted_event who number to_seg why moment passed at from_seg)) }
-    ensures event { IsSomeAnd (segment_of number (lists_of class.old.history))
-        (λ from_seg. class.new ≡ appended class.old (shifted_event who number to_seg why moment passed at from_seg) class.new.room) }
+    requires lawful { IsSomeAnd (segment_of ask.now.number (lists_of class.old.history))
+        (λ from_seg. MayCome class.old (shifted_event ask.now.who ask.now.number to_seg why ask.now.moment passed at from_seg)) }
+    ensures event { IsSomeAnd (segment_of ask.now.number (lists_of class.old.history))
+        (λ from_seg. class.new ≡ appended class.old (shifted_event ask.now.who ask.now.number to_seg why ask.now.moment passed at from_seg) class.new.room) }
 {
-    match class.shift(who, number, to_seg, why, moment, passed, at) {
+    match class.shift(ask.who, ask.number, to_seg, why, ask.moment, passed, at) {
         Ok(()) => {}
         Err(_) => unreachable!(),
     }

@@ -3,10 +3,10 @@ ghost use Rattle.std.specs.Prelude.{◌≡◌, ◌≤◌, ◌+◌, ◌++◌, ◌
 ghost use Rattle.mc_item.specs.declared.{config.Config.Config, lists.Seg.TheVariants.Temp, lists.Seg.TheVariants.Warm};
 ghost use Rattle.mc_segment.specs.{ClassCalls.surveyed_event, ClassCalls.MayEnd, ClassState.with_room};
 ghost use Rattle.mc_pull.specs.declared.{judge.Mode.TheVariants.Plain, looking.Answer.Answer};
-ghost use Rattle.mc_pull.specs.{Growth.GainsFor, Growth.KeepsSince, Pulled.none_pulled, Pulled.sum_of, Question.IsClassOf, Question.IsSurveyIn};
-ghost use Rattle.mc_pull.specs.{Refusal.MayFailAlone};
+ghost use Rattle.mc_pull.specs.{Growth.GainsFor, Pulled.none_pulled, Pulled.sum_of, Question.IsSurveyIn};
+ghost use Rattle.mc_pull.specs.{Gates.LeavesGate, Gates.MayJuggle, Gates.MayWalkBy, Refusal.MayFailAlone};
 ghost use Rattle.mc_pull.specs.{Rounds.rounds, Rounds.rounds_by, Rounds.Walks, Settled.class_with, Walker.walker_by};
-ghost use Rattle.mc_pull.specs.Juggle.{juggling, survey_at, history_surveyed, KeepsSurveys, OutlastsSurveys, PullsWarm, IsJuggleRound, IsJuggled, JugglesTemp};
+ghost use Rattle.mc_pull.specs.Juggle.{juggling, survey_at, history_surveyed, PullsWarm, IsJuggleRound, IsJuggled, JugglesTemp};
 ghost use Rattle.mc_pull.specs.Juggle.{JugglesRounds, IsJuggle};
 ghost use Rattle.mc_pull.specs.Broken.{BreaksWalk, BreaksRound, BreaksJuggled, BreaksTemp, BreaksRounds, BreaksJuggle};
 
@@ -30,9 +30,7 @@ fn pull_warm<G: Gate>(
     did: bool,
     gate: &mut G,
 ) -> Result<Pulled, Fault>
-    requires survey { IsSurveyIn class.old.history context.turn.who context.turn.moment survey }
-    requires config { IsClassOf context.config.now class.old }
-    requires gate { G.serves gate.old context.config.now class.old }
+    requires survey { MayWalkBy G.serves context gate.old class.old survey }
     ensures walk { IfOk result (λ pulled. (xs : List Answer) × (G.answers gate.new ≡ G.answers gate.old ++ xs) × PullsWarm (rounds_by class.old
         context.entry) survey did class.old.history xs class.new.history pulled) }
     ensures err { OnErr result ((xs : List Answer) × (G.answers gate.new ≡ G.answers gate.old ++ xs) × (did ≡ false) × BreaksWalk (rounds_by class.old
@@ -40,9 +38,7 @@ fn pull_warm<G: Gate>(
     ensures few { IfOk result (λ pulled. sum_of pulled ≤ 5) }
     ensures gains { GainsFor false class.old class.new }
     ensures fault { IfErr result (G.faults gate.new class.new) }
-    ensures holds { G.references gate.new ≡ G.references gate.old }
-    ensures serves { G.serves gate.new context.entry.config.now class.new }
-    ensures kept { KeepsSince (G.keeps (walker_by class.old context.entry)) gate.old class.old.history gate.new class.new.history }
+    ensures gate { LeavesGate G.references G.serves G.keeps context.entry.config.now (walker_by class.old context.entry) gate.old class.old gate.new class.new }
 {
     if did {
         return Ok(Pulled::none());
@@ -58,9 +54,7 @@ fn juggle_round<G: Gate>(
     survey: Survey,
     gate: &mut G,
 ) -> Result<Pulled, Fault>
-    requires survey { IsSurveyIn class.old.history context.turn.who context.turn.moment survey }
-    requires config { IsClassOf context.config.now class.old }
-    requires gate { G.serves gate.old context.config.now class.old }
+    requires survey { MayWalkBy G.serves context gate.old class.old survey }
     ensures round { IfOk result (λ sum. (xs : List Answer) × (G.answers gate.new ≡ G.answers gate.old ++ xs) × IsJuggleRound (rounds_by class.old
         context.entry) survey class.old.history xs class.new.history sum) }
     ensures err { OnErr result ((xs : List Answer) × (G.answers gate.new ≡ G.answers gate.old ++ xs) × BreaksRound (rounds_by class.old context.entry) survey
@@ -68,9 +62,7 @@ fn juggle_round<G: Gate>(
     ensures few { IfOk result (λ sum. sum_of sum ≤ 15) }
     ensures gains { GainsFor false class.old class.new }
     ensures fault { IfErr result (G.faults gate.new class.new) }
-    ensures holds { G.references gate.new ≡ G.references gate.old }
-    ensures serves { G.serves gate.new context.entry.config.now class.new }
-    ensures kept { KeepsSince (G.keeps (walker_by class.old context.entry)) gate.old class.old.history gate.new class.new.history }
+    ensures gate { LeavesGate G.references G.serves G.keeps context.entry.config.now (walker_by class.old context.entry) gate.old class.old gate.new class.new }
 {
     let mode = Mode::Plain(survey);
     let hot = pull_tail(context, class, Seg::Hot, mode, gate)?;
@@ -89,9 +81,7 @@ fn juggle_rounds<G: Gate>(
     gate: &mut G,
 ) -> Result<Pulled, Fault>
     requires small { sum_of total ≤ 2500 }
-    requires survey { IsSurveyIn class.old.history context.turn.who context.turn.moment survey }
-    requires config { IsClassOf context.config.now class.old }
-    requires gate { G.serves gate.old context.config.now class.old }
+    requires survey { MayWalkBy G.serves context gate.old class.old survey }
     ensures juggled { IfOk result (λ sum. (xs : List Answer) × (G.answers gate.new ≡ G.answers gate.old ++ xs) × IsJuggled (IsJuggleRound (rounds_by
         class.old context.entry) survey) (juggling class.old.history total) xs (juggling class.new.history sum)) }
     ensures err { OnErr result ((xs : List Answer) × (G.answers gate.new ≡ G.answers gate.old ++ xs) × BreaksJuggled (IsJuggleRound (rounds_by class.old
@@ -99,9 +89,7 @@ fn juggle_rounds<G: Gate>(
     ensures few { IfOk result (λ sum. sum_of sum ≤ 10000) }
     ensures gains { GainsFor false class.old class.new }
     ensures fault { IfErr result (G.faults gate.new class.new) }
-    ensures holds { G.references gate.new ≡ G.references gate.old }
-    ensures serves { G.serves gate.new context.entry.config.now class.new }
-    ensures kept { KeepsSince (G.keeps (walker_by class.old context.entry)) gate.old class.old.history gate.new class.new.history }
+    ensures gate { LeavesGate G.references G.serves G.keeps context.entry.config.now (walker_by class.old context.entry) gate.old class.old gate.new class.new }
 {
     let mut sum = total;
     let mut left: u64 = MOST_ROUNDS;
@@ -123,9 +111,7 @@ fn temp_rounds<G: Gate>(
     survey: Survey,
     gate: &mut G,
 ) -> Result<Pulled, Fault>
-    requires survey { IsSurveyIn class.old.history context.turn.who context.turn.moment survey }
-    requires config { IsClassOf context.config.now class.old }
-    requires gate { G.serves gate.old context.config.now class.old }
+    requires survey { MayWalkBy G.serves context gate.old class.old survey }
     ensures juggled { IfOk result (λ sum. (xs : List Answer) × (G.answers gate.new ≡ G.answers gate.old ++ xs) × IsJuggled (Walks (rounds_by class.old
         context.entry) Temp (Plain survey)) (juggling class.old.history none_pulled) xs (juggling class.new.history sum)) }
     ensures err { OnErr result ((xs : List Answer) × (G.answers gate.new ≡ G.answers gate.old ++ xs) × BreaksJuggled (Walks (rounds_by class.old
@@ -134,9 +120,7 @@ fn temp_rounds<G: Gate>(
     ensures few { IfOk result (λ sum. sum_of sum ≤ 2500) }
     ensures gains { GainsFor false class.old class.new }
     ensures fault { IfErr result (G.faults gate.new class.new) }
-    ensures holds { G.references gate.new ≡ G.references gate.old }
-    ensures serves { G.serves gate.new context.entry.config.now class.new }
-    ensures kept { KeepsSince (G.keeps (walker_by class.old context.entry)) gate.old class.old.history gate.new class.new.history }
+    ensures gate { LeavesGate G.references G.serves G.keeps context.entry.config.now (walker_by class.old context.entry) gate.old class.old gate.new class.new }
 {
     let mut sum = Pulled::none();
     let mut left: u64 = MOST_ROUNDS;
@@ -172,10 +156,7 @@ fn juggle_temp<G: Gate>(
     class: &mut ClassState,
     gate: &mut G,
 ) -> Result<Pulled, Fault>
-    requires config { IsClassOf context.config.now class.old }
-    requires gate { G.serves gate.old context.config.now class.old }
-    requires surveys { KeepsSurveys G.keeps (walker_by class.old context) }
-    requires outlasts { OutlastsSurveys G.serves }
+    requires gate { MayJuggle G.serves G.keeps context gate.old class.old }
     ensures temp { IfOk result (λ sum. (xs : List Answer) × (G.answers gate.new ≡ G.answers gate.old ++ xs) × JugglesTemp (rounds_by class.old context.entry)
         context.entry.config.now.temp class.old.history xs (juggling class.new.history sum)) }
     ensures err { IfErr result (λ fault. (xs : List Answer) × (G.answers gate.new ≡ G.answers gate.old ++ xs) × BreaksTemp (rounds_by class.old
@@ -183,9 +164,7 @@ fn juggle_temp<G: Gate>(
     ensures few { IfOk result (λ sum. sum_of sum ≤ 2500) }
     ensures gains { GainsFor false class.old class.new }
     ensures fault { IfErr result (λ fault. G.faults gate.new class.new fault ⊎ MayFailAlone class.new fault) }
-    ensures holds { G.references gate.new ≡ G.references gate.old }
-    ensures serves { G.serves gate.new context.entry.config.now class.new }
-    ensures kept { KeepsSince (G.keeps (walker_by class.old context.entry)) gate.old class.old.history gate.new class.new.history }
+    ensures gate { LeavesGate G.references G.serves G.keeps context.entry.config.now (walker_by class.old context.entry) gate.old class.old gate.new class.new }
 {
     if !context.config.temp {
         return Ok(Pulled::none());
@@ -202,10 +181,7 @@ fn juggle_rest<G: Gate>(
     gate: &mut G,
 ) -> Result<Pulled, Fault>
     requires small { sum_of total ≤ 2500 }
-    requires config { IsClassOf context.config.now class.old }
-    requires gate { G.serves gate.old context.config.now class.old }
-    requires surveys { KeepsSurveys G.keeps (walker_by class.old context) }
-    requires outlasts { OutlastsSurveys G.serves }
+    requires gate { MayJuggle G.serves G.keeps context gate.old class.old }
     ensures rest { IfOk result (λ sum. (xs : List Answer) × (G.answers gate.new ≡ G.answers gate.old ++ xs) × JugglesRounds (rounds_by class.old
         context.entry) (juggling class.old.history total) xs (juggling class.new.history sum)) }
     ensures err { IfErr result (λ fault. (xs : List Answer) × (G.answers gate.new ≡ G.answers gate.old ++ xs) × BreaksRounds (rounds_by class.old
@@ -213,9 +189,7 @@ fn juggle_rest<G: Gate>(
     ensures few { IfOk result (λ sum. sum_of sum ≤ 10000) }
     ensures gains { GainsFor false class.old class.new }
     ensures fault { IfErr result (λ fault. G.faults gate.new class.new fault ⊎ MayFailAlone class.new fault) }
-    ensures holds { G.references gate.new ≡ G.references gate.old }
-    ensures serves { G.serves gate.new context.entry.config.now class.new }
-    ensures kept { KeepsSince (G.keeps (walker_by class.old context.entry)) gate.old class.old.history gate.new class.new.history }
+    ensures gate { LeavesGate G.references G.serves G.keeps context.entry.config.now (walker_by class.old context.entry) gate.old class.old gate.new class.new }
 {
     let survey = survey_class(class, context.turn)?;
     juggle_rounds(context, class, survey, total, gate)
@@ -231,10 +205,7 @@ pub fn juggle<G: Gate>(
     class: &mut ClassState,
     gate: &mut G,
 ) -> Result<Moves, Fault>
-    requires config { IsClassOf context.config.now class.old }
-    requires gate { G.serves gate.old context.config.now class.old }
-    requires surveys { KeepsSurveys G.keeps (walker_by class.old context) }
-    requires outlasts { OutlastsSurveys G.serves }
+    requires gate { MayJuggle G.serves G.keeps context gate.old class.old }
     ensures juggle { IfOk result (λ moves. (xs : List Answer) × (G.answers gate.new ≡ G.answers gate.old ++ xs) × IsJuggle (rounds_by class.old
         context.entry) class.old.history xs class.new.history moves) }
     ensures err { IfErr result (λ fault. (xs : List Answer) × (G.answers gate.new ≡ G.answers gate.old ++ xs) × BreaksJuggle (rounds_by class.old
@@ -242,9 +213,7 @@ pub fn juggle<G: Gate>(
     ensures few { IfOk result (λ moves. moves.reclaimed + moves.moved ≤ 10000) }
     ensures gains { GainsFor false class.old class.new }
     ensures fault { IfErr result (λ fault. G.faults gate.new class.new fault ⊎ MayFailAlone class.new fault) }
-    ensures holds { G.references gate.new ≡ G.references gate.old }
-    ensures serves { G.serves gate.new context.entry.config.now class.new }
-    ensures kept { KeepsSince (G.keeps (walker_by class.old context.entry)) gate.old class.old.history gate.new class.new.history }
+    ensures gate { LeavesGate G.references G.serves G.keeps context.entry.config.now (walker_by class.old context.entry) gate.old class.old gate.new class.new }
 {
     let before = juggle_temp(context, class, gate)?;
     let sum = juggle_rest(context, class, before, gate)?;

@@ -1,6 +1,6 @@
 //! A gate that is lent one stripe, and reaches no other.
 ghost use Rattle.std.specs.Prelude.{◌≡◌, ◌≤◌, ◌+◌, ◌++◌, List, IfOk, IfErr, OnErr};
-ghost use Rattle.mc_pull.specs.{Growth.GainsEvents, Juggle.IsJuggle, Lone.Serves, Lone.Walked, Question.IsClassOf, Refusal.MayFail, Rounds.rounds_by};
+ghost use Rattle.mc_pull.specs.{Growth.GainsEvents, Juggle.IsJuggle, Lone.IsServedAlone, Lone.LeavesAlone, Refusal.MayFail, Rounds.rounds_by};
 ghost use Rattle.mc_pull.specs.{Rounds.IsRoom, Broken.BreaksRoom, Broken.BreaksJuggle};
 ghost use Rattle.mc_pull.specs.{Walker.walker_by};
 ghost use Rattle.mc_pull.specs.declared.looking.Answer.{Answer};
@@ -58,25 +58,21 @@ impl<'a> Lone<'a> {
     /// Makes room in a class as `make_room` does. As this gate has a single stripe, the contract adds: the gate still holds it,
     /// it has gained only events of this call, and histories that agreed with it still agree.
     pub fn make_room(&mut self, context: Context<'_>, class: &mut ClassState) -> Result<bool, Fault>
-        requires config { IsClassOf context.config.now class.old }
-        requires gate { Serves self.old.number.0 self.old.stripe.now context.config.now }
+        requires gate { IsServedAlone self.old context.config.now class.old }
         ensures room { IfOk result (λ found. (xs : List Answer) × (self.new.answers.now.items ≡ self.old.answers.now.items ++ xs) × IsRoom (rounds_by
             class.old context.entry) class.old.history xs class.new.history found) }
         ensures err { OnErr result ((xs : List Answer) × (self.new.answers.now.items ≡ self.old.answers.now.items ++ xs) × BreaksRoom (rounds_by class.old
             context.entry) class.old.history xs class.new.history) }
         ensures fault { IfErr result (MayFail class.new self.new.stripe.now) }
         ensures grows { GainsEvents class.old class.new }
-        ensures same_reference { self.new.stripe.ghost_name ≡ self.old.stripe.ghost_name }
-        ensures walked { Walked (walker_by class.old context.entry) self.old.stripe.now class.old.history self.new.stripe.now class.new.history }
-        ensures serves { Serves self.new.number.0 self.new.stripe.now context.entry.config.now }
+        ensures walked { LeavesAlone (walker_by class.old context.entry) context.entry.config.now self.old class.old.history self.new class.new.history }
     {
         make_room(context, class, self)
     }
 
     /// Juggles a class as `juggle` does. The contract adds the same as that of `make_room`.
     pub fn juggle(&mut self, context: Context<'_>, class: &mut ClassState) -> Result<Moves, Fault>
-        requires config { IsClassOf context.config.now class.old }
-        requires gate { Serves self.old.number.0 self.old.stripe.now context.config.now }
+        requires gate { IsServedAlone self.old context.config.now class.old }
         ensures juggle { IfOk result (λ moves. (xs : List Answer) × (self.new.answers.now.items ≡ self.old.answers.now.items ++ xs) × IsJuggle (rounds_by
             class.old context.entry) class.old.history xs class.new.history moves) }
         ensures err { IfErr result (λ fault. (xs : List Answer) × (self.new.answers.now.items ≡ self.old.answers.now.items ++ xs) × BreaksJuggle (rounds_by
@@ -84,9 +80,7 @@ impl<'a> Lone<'a> {
         ensures few { IfOk result (λ moves. moves.reclaimed + moves.moved ≤ 10000) }
         ensures fault { IfErr result (MayFail class.new self.new.stripe.now) }
         ensures grows { GainsEvents class.old class.new }
-        ensures same_reference { self.new.stripe.ghost_name ≡ self.old.stripe.ghost_name }
-        ensures walked { Walked (walker_by class.old context.entry) self.old.stripe.now class.old.history self.new.stripe.now class.new.history }
-        ensures serves { Serves self.new.number.0 self.new.stripe.now context.entry.config.now }
+        ensures walked { LeavesAlone (walker_by class.old context.entry) context.entry.config.now self.old class.old.history self.new class.new.history }
     {
         juggle(context, class, self)
     }

@@ -1,12 +1,11 @@
 //! Looks: how a walk reaches the stripe of an entry's key, through a gate.
-ghost use Rattle.std.specs.Prelude.{◌≡◌, ◌++◌, ◌∷◌, [], List, Some, None, is_some, length, IfOk, IfErr, OnOk, OnErr};
+ghost use Rattle.std.specs.Prelude.{◌≡◌, List, None, is_some, IfOk, IfErr, OnOk, OnErr};
 ghost use Rattle.mc_item.specs.declared.{item.StripeNo.StripeNo, class_event.ClassEvent.ClassEvent};
 ghost use Rattle.mc_segment.specs.ClassState.{with_room};
-ghost use Rattle.mc_stripe.specs.{StripeState.cache_now, StripeCalls.KeepsSite};
-ghost use Rattle.mc_pull.specs.{Agreeing.KeepsAgreement, Judgement.done_of, Looks.answer_by, Looks.judgement, Looks.events_if, Looks.IsJudged};
-ghost use Rattle.mc_pull.specs.{Looks.IsJudgedIf};
-ghost use Rattle.mc_pull.specs.{Refusal.MayFail, Refusal.MayRefuseFor, Settled.class_with, Settled.IsSettled, Sight.KeepsSight, Walker.walker_of};
-ghost use Rattle.mc_pull.specs.Question.{question_by, question_of, HasKeyOf, IsAsked, IsClassOf, MayJudge};
+ghost use Rattle.mc_stripe.specs.StripeState.{cache_now};
+ghost use Rattle.mc_pull.specs.{Gates.LeavesGate, Gates.MayLook, Judgement.done_of, Looks.IsAnswered, Looks.IsDone, Looks.MaySettle};
+ghost use Rattle.mc_pull.specs.{Refusal.Refuses, Settled.IsSettled, Sight.KeepsPartners, Walker.walker_of};
+ghost use Rattle.mc_pull.specs.Question.{question_by, question_of};
 
 use crate::context::Context;
 use crate::judge::{Ask, Done, Judge};
@@ -71,22 +70,15 @@ impl<'a> Look<'a> {
     /// Errors: `HistoryFull` if the class or the stripe has no place in its history for what is to be done, `NoMemory` if memory
     /// is refused. Neither history has changed then.
     pub fn settle(&mut self, stripe: &mut StripeState) -> Result<Done, Fault>
-        requires asked { IsAsked self.old.class.now stripe.old self.old.ask }
-        requires once { self.old.judged ≡ None }
+        requires look { MaySettle self.old stripe.old }
         ensures same_reference { self.new.class.ghost_name ≡ self.old.class.ghost_name }
         ensures ask { self.new.ask ≡ self.old.ask }
-        ensures done { IfOk result (λ made. (made ≡ done_of self.old.class.now (cache_now stripe.old) (question_of self.old.ask)) × (self.new.judged ≡ Some
-            (judgement made (length stripe.old.history)))) }
+        ensures done { IfOk result (IsDone self.old stripe.old self.new.judged) }
         ensures settled { IfOk result (λ made. IsSettled self.old.class.now self.new.class.now stripe.old stripe.new (question_of self.old.ask) made) }
-        ensures agreement { KeepsAgreement self.old.class.now self.new.class.now stripe.old stripe.new }
-        ensures sight { KeepsSight self.old.class.now self.new.class.now stripe.old stripe.new }
-        ensures judged { IfOk result (λ made. IsJudged self.old.ask.config.now (record { 0 = stripe.old.site.stripe }) self.old.class.now (question_of
-            self.old.ask) (judgement made (length stripe.old.history))) }
+        ensures keeps { KeepsPartners self.old.class.now self.new.class.now stripe.old stripe.new }
         ensures err { OnErr result ((self.new.class.now ≡ with_room self.old.class.now self.new.class.now.room) × (stripe.new.history ≡ stripe.old.history)) }
-        ensures site { KeepsSite stripe.old stripe.new }
-        ensures full { IfErr result (MayFail self.new.class.now stripe.new) }
-        ensures refusal { IfErr result (MayRefuseFor self.old.class.now stripe.old (done_of self.old.class.now (cache_now stripe.old) (question_of
-            self.old.ask))) }
+        ensures refusal { IfErr result (Refuses self.old.class.now self.new.class.now stripe.old stripe.new (done_of self.old.class.now (cache_now
+            stripe.old) (question_of self.old.ask))) }
     {
         let at = stripe.history().len() as u64;
         let class = &mut *self.class;
@@ -123,20 +115,14 @@ pub trait Gate {
     /// judged yet. Returns whether the stripe was reached. If not, the class's history is unchanged.
     /// Errors: those that `faults` allows. The class's history and the answers are then unchanged.
     fn visit(&mut self, stripe: StripeNo, look: &mut Look<'_>) -> Result<bool, Fault>
-        requires gate { serves self.old look.old.ask.config.now look.old.class.now }
-        requires class { IsClassOf look.old.ask.config.now look.old.class.now }
-        requires judge { MayJudge look.old.class.now (question_of look.old.ask) }
-        requires key { HasKeyOf stripe look.old.ask.config.now look.old.class.now (question_of look.old.ask) }
+        requires look { MayLook serves look.old.ask.config.now self.old stripe look.old.class.now (question_of look.old.ask) }
         requires once { look.old.judged ≡ None }
         ensures same_reference { look.new.class.ghost_name ≡ look.old.class.ghost_name }
-        ensures holds { references self.new ≡ references self.old }
-        ensures answer { IfOk result (λ had. (is_some look.new.judged ≡ had) × (answers self.new ≡ answers self.old ++ answer_by stripe look.new.judged ∷ [])) }
-        ensures class { OnOk result (look.new.class.now ≡ class_with look.old.class.now (events_if look.old.class.now (question_of look.old.ask)
-            look.new.judged) look.new.class.now.room) }
-        ensures judged { OnOk result (IsJudgedIf look.old.ask.config.now stripe look.old.class.now (question_of look.old.ask) look.new.judged) }
+        ensures had { IfOk result (λ had. is_some look.new.judged ≡ had) }
+        ensures answer { OnOk result (IsAnswered look.old.ask.config.now stripe (question_of look.old.ask) look.old.class.now look.new.class.now (answers
+            self.old) (answers self.new) look.new.judged) }
         ensures err { OnErr result ((look.new.class.now ≡ with_room look.old.class.now look.new.class.now.room) × (answers self.new ≡ answers self.old)) }
         ensures fault { IfErr result (faults self.new look.new.class.now) }
-        ensures serves { serves self.new look.old.ask.config.now look.new.class.now }
-        ensures kept { (g : Self) (h : List ClassEvent) → keeps (walker_of look.old.class.now look.old.ask.who look.old.ask.moment) g h self.old
-            look.old.class.now.history → keeps (walker_of look.old.class.now look.old.ask.who look.old.ask.moment) g h self.new look.new.class.now.history };
+        ensures gate { LeavesGate references serves keeps look.old.ask.config.now (walker_of look.old.class.now look.old.ask.who look.old.ask.moment)
+            self.old look.old.class.now self.new look.new.class.now };
 }

@@ -2,11 +2,10 @@
 ghost use Rattle.std.specs.Prelude.{◌≡◌, ◌<◌, ◌≤◌, ◌++◌, ◌∷◌, [], ℕ, List, true, false, length, take, reverse, IfOk, IfErr, OnErr};
 ghost use Rattle.mc_rule.specs.{Lists.lists_of, Lists.list_of, Segment.numbers_of};
 ghost use Rattle.mc_segment.specs.ClassState.{with_room};
-ghost use Rattle.mc_pull.specs.{Growth.GainsEvents, Growth.GainsFor, Growth.KeepsSince, Growth.looks_for_chunk};
-ghost use Rattle.mc_pull.specs.{Looks.answer_by, Looks.events_if, Looks.IsJudgedIf, Pulled.sum_of, Question.question_by};
-ghost use Rattle.mc_pull.specs.{Question.HasKeyOf, Question.IsClassOf, Question.MayJudge, Question.MayWalk, Settled.class_with, Walker.walker_by};
+ghost use Rattle.mc_pull.specs.{Gates.IsServedBy, Gates.LeavesGate, Gates.MayLook, Growth.GainsEvents, Growth.GainsFor, Growth.looks_for_chunk};
+ghost use Rattle.mc_pull.specs.{Looks.IsAnswered, Pulled.sum_of, Question.MayWalk, Question.question_by, Walker.walker_by};
 ghost use Rattle.mc_pull.specs.Walk as words;
-ghost use Rattle.mc_pull.specs.Walk.{pull_by, way, step, IsAnswer, IsWalk, IsBrokenWalk};
+ghost use Rattle.mc_pull.specs.Walk.{pull_by, way, step, IsAnswer, IsWalk, IsBrokenWalk, MayLookNext};
 ghost use Rattle.mc_pull.specs.declared.looking.Answer.{Answer};
 
 use crate::context::Context;
@@ -53,19 +52,12 @@ pub(crate) fn look_at<G: Gate>(
     judge: &Judge,
     gate: &mut G,
 ) -> Result<Option<Judged>, Fault>
-    requires config { IsClassOf context.config.now class.old }
-    requires judge { MayJudge class.old (question_by context number judge.now) }
-    requires key { HasKeyOf stripe context.config.now class.old (question_by context number judge.now) }
-    requires gate { G.serves gate.old context.config.now class.old }
-    ensures answer { IfOk result (λ judged. G.answers gate.new ≡ G.answers gate.old ++ answer_by stripe judged ∷ []) }
-    ensures class { IfOk result (λ judged. class.new ≡ class_with class.old (events_if class.old (question_by context.entry number judge.now) judged)
-        class.new.room) }
-    ensures judged { IfOk result (λ judged. IsJudgedIf context.entry.config.now stripe class.old (question_by context.entry number judge.now) judged) }
+    requires look { MayLook G.serves context.config.now gate.old stripe class.old (question_by context number judge.now) }
+    ensures answer { IfOk result (IsAnswered context.entry.config.now stripe (question_by context.entry number judge.now) class.old class.new (G.answers
+        gate.old) (G.answers gate.new)) }
     ensures err { OnErr result ((class.new ≡ with_room class.old class.new.room) × (G.answers gate.new ≡ G.answers gate.old)) }
     ensures fault { IfErr result (G.faults gate.new class.new) }
-    ensures holds { G.references gate.new ≡ G.references gate.old }
-    ensures serves { G.serves gate.new context.entry.config.now class.new }
-    ensures kept { KeepsSince (G.keeps (walker_by class.old context.entry)) gate.old class.old.history gate.new class.new.history }
+    ensures gate { LeavesGate G.references G.serves G.keeps context.entry.config.now (walker_by class.old context.entry) gate.old class.old gate.new class.new }
 {
     let mut look = Look::new(context, class, number, judge);
     gate.visit(stripe, &mut look)?;
@@ -82,12 +74,8 @@ fn look_next<G: Gate>(
     pulled: Pulled,
     gate: &mut G,
 ) -> Result<Answer, Fault>
-    requires wanted { words.is_wanted mode class.old.chunks class.old.history ≡ true }
-    requires few { pulled.passed ≤ 4 }
-    requires there { pulled.passed < length (list_of (lists_of class.old.history) seg) }
-    requires walk { MayWalk class.old seg mode context.turn.who context.turn.moment }
-    requires config { IsClassOf context.config.now class.old }
-    requires gate { G.serves gate.old context.config.now class.old }
+    requires next { MayLookNext class.old seg mode context pulled }
+    requires gate { IsServedBy G.serves context.config.now gate.old class.old }
     ensures answer { (left : ℕ) → 0 < left → IfOk result (λ a. IsAnswer (pull_by class.old seg mode context.entry) (way class.old.history left pulled false)
         a × (G.answers gate.new ≡ G.answers gate.old ++ a ∷ [])) }
     ensures class { (left : ℕ) → IfOk result (λ a. class.new.history ≡ (step (pull_by class.old seg mode context.entry) (way class.old.history left pulled
@@ -95,9 +83,7 @@ fn look_next<G: Gate>(
     ensures grows { GainsEvents class.old class.new }
     ensures err { OnErr result ((class.new.history ≡ class.old.history) × (G.answers gate.new ≡ G.answers gate.old)) }
     ensures fault { IfErr result (G.faults gate.new class.new) }
-    ensures holds { G.references gate.new ≡ G.references gate.old }
-    ensures serves { G.serves gate.new context.entry.config.now class.new }
-    ensures kept { KeepsSince (G.keeps (walker_by class.old context.entry)) gate.old class.old.history gate.new class.new.history }
+    ensures gate { LeavesGate G.references G.serves G.keeps context.entry.config.now (walker_by class.old context.entry) gate.old class.old gate.new class.new }
 {
     let entry = class.from_tail(seg, pulled.passed).unwrap();
     let number = entry.number;
@@ -124,8 +110,7 @@ pub fn pull_tail<G: Gate>(
     gate: &mut G,
 ) -> Result<Pulled, Fault>
     requires walk { MayWalk class.old seg mode context.turn.who context.turn.moment }
-    requires config { IsClassOf context.config.now class.old }
-    requires gate { G.serves gate.old context.config.now class.old }
+    requires gate { IsServedBy G.serves context.config.now gate.old class.old }
     ensures walk { IfOk result (λ pulled. (xs : List Answer) × (G.answers gate.new ≡ G.answers gate.old ++ xs) × IsWalk (pull_by class.old seg mode
         context.entry) xs class.new.history pulled) }
     ensures err { OnErr result ((xs : List Answer) × (G.answers gate.new ≡ G.answers gate.old ++ xs) × IsBrokenWalk (pull_by class.old seg mode
@@ -133,9 +118,7 @@ pub fn pull_tail<G: Gate>(
     ensures gains { GainsFor (looks_for_chunk mode) class.old class.new }
     ensures few { IfOk result (λ pulled. sum_of pulled ≤ 5) }
     ensures fault { IfErr result (G.faults gate.new class.new) }
-    ensures holds { G.references gate.new ≡ G.references gate.old }
-    ensures serves { G.serves gate.new context.entry.config.now class.new }
-    ensures kept { KeepsSince (G.keeps (walker_by class.old context.entry)) gate.old class.old.history gate.new class.new.history }
+    ensures gate { LeavesGate G.references G.serves G.keeps context.entry.config.now (walker_by class.old context.entry) gate.old class.old gate.new class.new }
 {
     let mut left = class.len(seg).min(MOST_LOOKS);
     let mut pulled = Pulled::none();

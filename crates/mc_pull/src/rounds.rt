@@ -1,9 +1,9 @@
 //! Rounds of walks that make room in a full class.
 ghost use Rattle.std.specs.Prelude.{◌≡◌, ◌++◌, List, false, IfOk, IfErr, OnErr};
 ghost use Rattle.mc_pull.specs.{
+  Gates.IsServedBy,
+  Gates.LeavesGate,
   Growth.GainsEvents,
-  Growth.KeepsSince,
-  Question.IsClassOf,
   Rounds.rounds_by,
   Rounds.IsRoomRound,
   Rounds.IsRoom,
@@ -36,17 +36,14 @@ fn room_round<G: Gate>(
     gate: &mut G,
 ) -> Result<(), Fault>
     requires full { words.is_free class.old class.old.history ≡ false }
-    requires config { IsClassOf context.config.now class.old }
-    requires gate { G.serves gate.old context.config.now class.old }
+    requires gate { IsServedBy G.serves context.config.now gate.old class.old }
     ensures round { IfOk result (λ _. (xs : List Answer) × (G.answers gate.new ≡ G.answers gate.old ++ xs) × IsRoomRound (rounds_by class.old context.entry)
         class.old.history xs class.new.history) }
     ensures err { OnErr result ((xs : List Answer) × (G.answers gate.new ≡ G.answers gate.old ++ xs) × BreaksRoomRound (rounds_by class.old context.entry)
         class.old.history xs class.new.history) }
     ensures grows { GainsEvents class.old class.new }
     ensures fault { IfErr result (G.faults gate.new class.new) }
-    ensures holds { G.references gate.new ≡ G.references gate.old }
-    ensures serves { G.serves gate.new context.entry.config.now class.new }
-    ensures kept { KeepsSince (G.keeps (walker_by class.old context.entry)) gate.old class.old.history gate.new class.new.history }
+    ensures gate { LeavesGate G.references G.serves G.keeps context.entry.config.now (walker_by class.old context.entry) gate.old class.old gate.new class.new }
 {
     let pulled = pull_tail(context, class, Seg::Cold, Mode::Evict, gate)?;
     if pulled.did_something() {
@@ -63,17 +60,14 @@ pub fn make_room<G: Gate>(
     class: &mut ClassState,
     gate: &mut G,
 ) -> Result<bool, Fault>
-    requires config { IsClassOf context.config.now class.old }
-    requires gate { G.serves gate.old context.config.now class.old }
+    requires gate { IsServedBy G.serves context.config.now gate.old class.old }
     ensures room { IfOk result (λ found. (xs : List Answer) × (G.answers gate.new ≡ G.answers gate.old ++ xs) × IsRoom (rounds_by class.old context.entry)
         class.old.history xs class.new.history found) }
     ensures err { OnErr result ((xs : List Answer) × (G.answers gate.new ≡ G.answers gate.old ++ xs) × BreaksRoom (rounds_by class.old context.entry)
         class.old.history xs class.new.history) }
     ensures grows { GainsEvents class.old class.new }
     ensures fault { IfErr result (G.faults gate.new class.new) }
-    ensures holds { G.references gate.new ≡ G.references gate.old }
-    ensures serves { G.serves gate.new context.entry.config.now class.new }
-    ensures kept { KeepsSince (G.keeps (walker_by class.old context.entry)) gate.old class.old.history gate.new class.new.history }
+    ensures gate { LeavesGate G.references G.serves G.keeps context.entry.config.now (walker_by class.old context.entry) gate.old class.old gate.new class.new }
 {
     let mut left: u64 = MOST_ROUNDS;
     'rounds: while left > 0 {

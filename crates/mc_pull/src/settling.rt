@@ -3,9 +3,9 @@ ghost use Rattle.std.specs.Prelude.{◌≡◌, ◌<◌, ◌⊎◌, length, IfOk,
 ghost use Rattle.mc_rule.specs.{Segment.rule_of, Lawful.IsListed, Lists.lists_of};
 ghost use Rattle.mc_segment.specs.{ClassState.with_room, ClassState.HasPlaces, ClassState.MayRefuse, Entries.entry_of};
 ghost use Rattle.mc_stripe.specs.{StripeState.cache_now, StripeCalls.KeepsSite};
-ghost use Rattle.mc_pull.specs.{Agreeing.KeepsAgreement, Judgement.done_of, Settled.done_class_events, Settled.class_with, Settled.IsSettled, Sight.KeepsSight};
+ghost use Rattle.mc_pull.specs.{Judgement.done_of, Settled.done_class_events, Settled.class_with, Settled.IsSettled, Sight.KeepsPartners};
 ghost use Rattle.mc_pull.specs.Question.{question_by, question_of, IsAsked, IsClassOf, IsStripeOf, MayJudge};
-ghost use Rattle.mc_pull.specs.Refusal.{HavePlaces, MayFail, MayRefuseBoth, MayRefuseFor};
+ghost use Rattle.mc_pull.specs.Refusal.{HavePlaces, MayFail, MayRefuseBoth, MayRefuseFor, Refuses};
 ghost use Rattle.mc_pull.specs.Settled as words;
 ghost use Rattle.mc_pull.specs.Outcome as table;
 ghost use Rattle.mc_pull.specs.declared.judge.Done.TheVariants as done;
@@ -25,26 +25,24 @@ fn prepare(
     alloc: Global,
     class: &mut ClassState,
     stripe: &mut StripeState,
-    number: u64,
-    config: &Config,
+    ask: &Ask<'_>,
 ) -> Result<Key, Fault>
-    requires class { IsClassOf config.now class.old }
-    requires stripe { IsStripeOf config.now stripe.old }
-    requires there { IsListed number (lists_of class.old.history) }
-    ensures key { IfOk result (λ key. IsSomeAnd (entry_of number (lists_of class.old.history)) (λ e. key ≡ e.key)) }
+    requires asked { IsAsked class.old stripe.old ask.now }
+    requires there { IsListed ask.now.number (lists_of class.old.history) }
+    ensures key { IfOk result (λ key. IsSomeAnd (entry_of ask.now.number (lists_of class.old.history)) (λ e. key ≡ e.key)) }
     ensures class { class.new ≡ with_room class.old class.new.room }
     ensures history { stripe.new.history ≡ stripe.old.history }
     ensures site { KeepsSite stripe.old stripe.new }
     ensures room { OnOk result ((0 < class.new.room) × (0 < stripe.new.room)) }
     ensures refusal { MatchResult result (λ _. HavePlaces class.old stripe.old) (MayRefuseBoth class.old stripe.old) }
 {
-    if class.history().len() as u64 >= config.max_events {
+    if class.history().len() as u64 >= ask.config.max_events {
         return Err(Fault::HistoryFull);
     }
-    if stripe.history().len() as u64 >= config.max_events {
+    if stripe.history().len() as u64 >= ask.config.max_events {
         return Err(Fault::HistoryFull);
     }
-    let key = class.entry(number).unwrap().key.copy(alloc)?;
+    let key = class.entry(ask.number).unwrap().key.copy(alloc)?;
     class.reserve(1)?;
     stripe.reserve(1)?;
     Ok(key)
@@ -103,7 +101,7 @@ fn settle_dead(
     ensures site { KeepsSite stripe.old stripe.new }
     ensures refusal { MatchResult result (λ _. HavePlaces class.old stripe.old) (MayRefuseBoth class.old stripe.old) }
 {
-    let key = prepare(alloc, class, stripe, ask.number, ask.config)?;
+    let key = prepare(alloc, class, stripe, ask)?;
     let at = stripe.history().len() as u64;
     certain::reclaim(class, ask.who, ask.number, ask.moment, at);
     certain::forget_expired(stripe, ask.who, key, ask.moment);
@@ -124,7 +122,7 @@ fn settle_taken(
     ensures site { KeepsSite stripe.old stripe.new }
     ensures refusal { MatchResult result (λ _. HavePlaces class.old stripe.old) (MayRefuseBoth class.old stripe.old) }
 {
-    let key = prepare(alloc, class, stripe, ask.number, ask.config)?;
+    let key = prepare(alloc, class, stripe, ask)?;
     let at = stripe.history().len() as u64;
     let place = class.history().len() as u64;
     certain::evict(class, ask.who, ask.number, passed_of(ask.judge), at);
@@ -148,16 +146,14 @@ fn settle_active(
     ensures site { KeepsSite stripe.old stripe.new }
     ensures refusal { MatchResult result (λ _. HavePlaces class.old stripe.old) (MayRefuseBoth class.old stripe.old) }
 {
-    let key = prepare(alloc, class, stripe, ask.number, ask.config)?;
+    let key = prepare(alloc, class, stripe, ask)?;
     let at = stripe.history().len() as u64;
     class.law();
     certain::shift(
         class,
-        ask.who,
-        ask.number,
+        ask,
         Seg::Warm,
         warm_why(ask.judge),
-        ask.moment,
         passed_of(ask.judge),
         at,
     );
@@ -231,6 +227,7 @@ fn settle_by(
     Ok(made)
 }
 
+// Judges the entry that is asked about, as `settle` does.
 pub(crate) fn settle_ask(
     alloc: Global,
     class: &mut ClassState,
@@ -240,12 +237,9 @@ pub(crate) fn settle_ask(
     requires asked { IsAsked class.old stripe.old ask.now }
     ensures done { IfOk result (λ made. made ≡ done_of class.old (cache_now stripe.old) (question_of ask.now)) }
     ensures settled { IfOk result (λ made. IsSettled class.old class.new stripe.old stripe.new (question_of ask.now) made) }
-    ensures agreement { KeepsAgreement class.old class.new stripe.old stripe.new }
-    ensures sight { KeepsSight class.old class.new stripe.old stripe.new }
+    ensures keeps { KeepsPartners class.old class.new stripe.old stripe.new }
     ensures err { OnErr result ((class.new ≡ with_room class.old class.new.room) × (stripe.new.history ≡ stripe.old.history)) }
-    ensures site { KeepsSite stripe.old stripe.new }
-    ensures full { IfErr result (MayFail class.new stripe.new) }
-    ensures refusal { IfErr result (MayRefuseFor class.old stripe.old (done_of class.old (cache_now stripe.old) (question_of ask.now))) }
+    ensures refusal { IfErr result (Refuses class.old class.new stripe.old stripe.new (done_of class.old (cache_now stripe.old) (question_of ask.now))) }
 {
     class.law();
     stripe.history();
@@ -270,12 +264,10 @@ pub fn settle(
     requires judge { MayJudge class.old (question_by context number judge.now) }
     ensures done { IfOk result (λ made. made ≡ done_of class.old (cache_now stripe.old) (question_by context.entry number judge.now)) }
     ensures settled { IfOk result (λ made. IsSettled class.old class.new stripe.old stripe.new (question_by context.entry number judge.now) made) }
-    ensures agreement { KeepsAgreement class.old class.new stripe.old stripe.new }
-    ensures sight { KeepsSight class.old class.new stripe.old stripe.new }
+    ensures keeps { KeepsPartners class.old class.new stripe.old stripe.new }
     ensures err { OnErr result ((class.new ≡ with_room class.old class.new.room) × (stripe.new.history ≡ stripe.old.history)) }
-    ensures site { KeepsSite stripe.old stripe.new }
-    ensures full { IfErr result (MayFail class.new stripe.new) }
-    ensures refusal { IfErr result (MayRefuseFor class.old stripe.old (done_of class.old (cache_now stripe.old) (question_by context.entry number judge.now))) }
+    ensures refusal { IfErr result (Refuses class.old class.new stripe.old stripe.new (done_of class.old (cache_now stripe.old) (question_by context.entry
+        number judge.now))) }
 {
     settle_ask(
         context.alloc,

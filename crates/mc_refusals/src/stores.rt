@@ -1,7 +1,7 @@
 //! Cases on a store that threads may share: what is done before the call, the call, and what the store then has.
 ghost use Rattle.std.specs.Prelude.{◌≡◌, ◌<◌, IfSome, length};
 ghost use Rattle.mc_item.specs.Config.{IsBounded, IsSound};
-ghost use Rattle.mc_refusals.specs.Parts.{AreParts};
+ghost use Rattle.mc_store.specs.Opening.{AreParts};
 
 use crate::asking::{Asked, MOMENT, command_of, key_of};
 use crate::end::{End, Outcome, end_if, end_of};

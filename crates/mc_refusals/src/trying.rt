@@ -8,7 +8,7 @@ use crate::marks::Marks;
 use crate::noting::note_of;
 use crate::worlds::sound_config;
 use mc_item::{ClassNo, Command, Config, StripeNo, Verb};
-use mc_pull::{attempt_one, offer_home, ready};
+use mc_pull::{Attempt, attempt_one, offer_home, ready};
 use mc_segment::ClassState;
 use mc_stripe::{Given, StripeState, Turn};
 use mc_testing::WHO;
@@ -28,12 +28,17 @@ fn attempt(stripe: &mut StripeState, class: &mut ClassState, command: &Command, 
     if !stripe.owns(command.key()) || ready(class).is_err() {
         return End::Other;
     }
-    let given = Given {
-        home: Some(offer_home(class, None, TURN)),
-        other: None,
+    let attempt = Attempt {
+        alloc: marks.alloc,
+        command,
+        turn: TURN,
+        given: Given {
+            home: Some(offer_home(class, None, TURN)),
+            other: None,
+        },
     };
     marks.begin();
-    let tried = attempt_one(marks.alloc, stripe, class, command, TURN, given);
+    let tried = attempt_one(attempt, stripe, class);
     marks.end();
     end_of(tried)
 }

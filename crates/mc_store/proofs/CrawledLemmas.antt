@@ -12,10 +12,10 @@ use Rattle.mc_rule.specs.Lists.{count_of, lists_of}
 use Rattle.mc_board.proofs.PrefixLemmas.{prefix_self, prefix_trans}
 use Rattle.mc_segment.specs.ClassState.{ClassView, opened}
 use Rattle.mc_pull.specs.declared.looking.Answer.{Answer}
-use Rattle.mc_crawl.specs.{Crawl.AreReclaims, Crawl.IsCrawled, Crawl.Reclaims, Crawl.crawl, CrawlCount.IsBalanced, CrawlCount.counted_as, Snapshot.links_of}
-use Rattle.mc_crawl.specs.declared.kind.Kind.{Kind}
+use Rattle.mc_crawl.specs.{Crawl.AreReclaims, Crawl.HasCounted, Crawl.Reclaims, Crawl.crawl, CrawlCount.IsBalanced, Snapshot.links_of}
+use Rattle.mc_stripe.specs.declared.trying.Turn.{Turn}
 use Rattle.mc_store.specs.{Calls.IsSeenGrowOf, Locked.class_lock, Sides.class_told}
-use Rattle.mc_store.specs.Crawls.{AreLinksCounted, CountsLink, HasReclaims, IsCrawledBy, IsLinkCounted, IsSeenSound, IsSnapshot, ShowsReclaims}
+use Rattle.mc_store.specs.Crawls.{AreLinksCounted, CountsLink, CountsOne, HasCountedLink, HasReclaims, IsCrawledBy, IsLinkCounted, IsSeenSound, IsSnapshot, ShowsReclaims}
 use Rattle.mc_store.proofs.SyncedStepLemmas.{map_append}
 
 -- at least none is there
@@ -112,10 +112,14 @@ snapshot_taken config class before after c links number seen now are count = (
 )
 
 -- a link that was crawled was counted
-pub counts_link : (config : Config) (c c_new : ClassView) (who : Who) (moment : ℕ) (link : Link) (xs ys : List Answer) (h h_new : Histogram) (r : Result Unit Fault)
-    → OnOk r ((k : Kind) × IsCrawled (crawl who link.number moment config) c c_new xs ys k × (h_new ≡ counted_as k h)) → OnOk r (CountsLink config c c_new who moment link h h_new)
-counts_link config c c_new who moment link xs ys h h_new (Ok x) made = record { kind = made.0; answers = xs; answers_new = ys; crawled = made.1; counts = made.2 }
-counts_link config c c_new who moment link xs ys h h_new (Err f) made = tt
+pub counts_one : (config : Config) (c c_new : ClassView) (turn : Turn) (link : Link) (xs ys : List Answer) (h h_new : Histogram) (r : Result Unit Fault)
+    → OnOk r (HasCounted (crawl turn.who link.number turn.moment config) c c_new xs ys h h_new) → OnOk r (CountsOne config c c_new turn link h h_new)
+counts_one config c c_new turn link xs ys h h_new (Ok x) made = record {
+  counted = record { kind = made.kind; answers = xs; answers_new = ys; crawled = made.crawled; counts = made.counts };
+  seen = made.seen;
+  reclaims = made.reclaims;
+}
+counts_one config c c_new turn link xs ys h h_new (Err f) made = tt
 
 -- a link was counted under the lock
 pub link_counted : (config : Config) (class : ClassNo) (before after : Sight) (who : Who) (moment : ℕ) (link : Link) (h h_new : Histogram) (c c_new : ClassView) → IsSeenGrowOf config class before after c c_new.history
@@ -128,6 +132,15 @@ link_counted config class before after who moment link h h_new c c_new grew coun
   begins = grew.seen;
   now = grew.now;
   counted = counts;
+}
+
+-- and the pass has come to see what was reclaimed
+pub link_seen : (config : Config) (class : ClassNo) (before after : Sight) (turn : Turn) (link : Link) (h h_new : Histogram) (c c_new : ClassView) → IsSeenGrowOf config class before after c c_new.history
+    → CountsOne config c c_new turn link h h_new → HasCountedLink config class before after turn link h h_new
+link_seen config class before after turn link h h_new c c_new grew made = record {
+  seen = made.seen;
+  reclaims = shows_one config class before after turn.who turn.moment h.reclaimed h_new.reclaimed c.history c_new.history grew.seen grew.now made.reclaims;
+  counted = link_counted config class before after turn.who turn.moment link h h_new c c_new grew made.counted;
 }
 
 -- one link more was counted

@@ -1,11 +1,11 @@
 -- What a gate under locks serves, it serves after a survey too; and what its stripes gain adds up.
-use Rattle.std.proofs.Common.{◌≡◌, ◌<◌, ◌+◌, ℕ, List, [], ◌∷◌, ◌++◌, refl, sym, ap, ◌∙◌, subst, inl, inr, length, append_assoc, Result, Ok, Err}
+use Rattle.std.proofs.Common.{◌≡◌, ◌<◌, ◌+◌, ℕ, List, [], ◌∷◌, ◌++◌, refl, sym, ap, ◌∙◌, subst, inl, inr, length, append_assoc, Option, None, Result, Ok, Err}
 use Rattle.std.specs.Prelude.{IfErr, IfOk}
 use Rattle.std.proofs.lemmas.List.{append-nil}
 use mathlib.Core.List.{IsPrefix}
 use Rattle.atomic_table.specs.Seated.{TableId}
 use Rattle.mc_item.specs.declared.{class_event.ClassEvent.ClassEvent, config.Config.Config, event.Event.Event, fault.Fault.Fault}
-use Rattle.mc_item.specs.declared.{fault.Fault.TheVariants.HistoryFull, item.Who.Who, stripe_event.StripeEvent.StripeEvent}
+use Rattle.mc_item.specs.declared.{fault.Fault.TheVariants.HistoryFull, item.StripeNo.StripeNo, item.Who.Who, stripe_event.StripeEvent.StripeEvent}
 use Rattle.mc_evidence.proofs.LentStepLemmas.{survey_step}
 use Rattle.mc_evidence.specs.Seen.{stripes_seen}
 use Rattle.mc_segment.specs.{ClassCalls.surveyed_event, ClassState.ClassView, ClassState.with_room}
@@ -13,7 +13,8 @@ use Rattle.mc_stripe.specs.StripeState.{Stripe}
 use Rattle.mc_board.specs.{Histories.Grows, Histories.list_at, Views.OwnerView, Views.SeenView}
 use Rattle.mc_board.specs.declared.rule.Sight.{Sight}
 use Rattle.mc_board.proofs.PrefixLemmas.{prefix_more, prefix_self}
-use Rattle.mc_pull.specs.{Lone.AreMadeBy, Lone.StripeGrows, Question.IsClassOf, Settled.class_with, Walker.Walker}
+use Rattle.mc_pull.specs.declared.{looking.Answer.Answer, looking.Judged.Judged}
+use Rattle.mc_pull.specs.{Lone.AreMadeBy, Lone.StripeGrows, Looks.IsAnswered, Looks.answer_by, Question.IsClassOf, Question.Question, Settled.class_with, Walker.Walker}
 use Rattle.mc_store.specs.{Locked.setting_of, Serving.HasSeenShort, Serving.IsServed, Serving.MayFailSeen, Sides.class_told}
 use Rattle.mc_store.proofs.ShortHistoryLemmas.{short_grows}
 use Rattle.mc_store.proofs.SyncedStepLemmas.{any_short, map_append, short_of}
@@ -97,3 +98,10 @@ room_full table config owner seen c served sight lock at list more r may is = by
         any_short config sight (short_of config sight lock c.number c.history (at ∙ served.kept.lock_is) served.kept.is list
         (subst (λ (n : ℕ). n < length c.history + 2) served.kept.made_with.max_events lack))
     by (inr short) = short_grows config seen.sight sight more short
+
+-- ---- looks
+-- a look whose stripe was not reached was answered so
+pub passed_by : (config : Config) (stripe : StripeNo) (q : Question) (c : ClassView) (xs ys : List Answer) (judged : Option Judged) → judged ≡ None → ys ≡ xs ++ answer_by stripe None ∷ []
+    → IsAnswered config stripe q c c xs ys judged
+passed_by config stripe q c xs ys judged none is =
+    subst (IsAnswered config stripe q c c xs ys) (sym none) record { answers = is; class = ap (λ (h : List ClassEvent). record c { history = h }) (sym (append-nil c.history)); judged_is = tt }

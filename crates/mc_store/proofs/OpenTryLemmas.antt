@@ -22,7 +22,7 @@ use Rattle.mc_store.specs.{Callers.AreCalled, Callers.answered_at, Callers.asked
 use Rattle.mc_store.specs.Locked.{HasBegunAs, IsHeldClass, IsLockedClass, IsLockedStripe, caller_place, locks_for}
 use Rattle.mc_store.specs.{Performing.IsRefusedIn, Serving.class_side, Sides.ClassSide, Sides.StripeSide, Sides.class_told}
 use Rattle.mc_store.specs.{Sides.stripe_told, Trying.IsTriedUnder, Trying.Stay, Trying.is_made}
-use Rattle.mc_store.proofs.{SeenStripeLemmas.on_err_more, CallerLemmas.called_performed, LentClassLemmas.lent_grow, LentClassLemmas.own_behind}
+use Rattle.mc_store.proofs.{SeenStripeLemmas.on_err_both, SeenStripeLemmas.on_err_more, CallerLemmas.called_performed, LentClassLemmas.lent_grow, LentClassLemmas.own_behind}
 use Rattle.mc_store.proofs.OwnEventLemmas.{GainsFit, gains_performed}
 use Rattle.mc_store.proofs.{OwnEventLemmas.locked_told, OwnEventLemmas.noted_called, LockKeepsLemmas.grows_trans, LockKeepsLemmas.seen_on, LockKeepsLemmas.stripe_sees}
 use Rattle.mc_store.proofs.SyncedLemmas.{lent_more, lent_said, own_more, own_said, stripe_side}
@@ -257,9 +257,13 @@ module _ {table : TableId} {config : Config} {command : Command} {turn : Turn} {
   left_sees {own = own} {own_new = own_new} {sight = sight} opened left =
       seen_on own seen.sight noting (record { board = owner.board; lock = owner.lock; stripe = s_new; sight = sight }) own_new (ap (λ (x : StripeSide). x.sight) opened.is) known.more left.more left.is
 
-  pub left_err : {side own own_new : StripeSide} {sight : Sight} → IsOpenStripe table config owner seen s side own → IsLeft owner s_new noting own_new sight → OnErr t (own_new.stripe.history ≡ own.stripe.history)
-  left_err opened left =
-      on_err_more t _ _ (λ (none : IsUntouched s s_new vs ws). ap (λ (x : StripeSide). x.stripe.history) left.is ∙ none.stripe ∙ ap (λ (x : StripeSide). x.stripe.history) opened.is) step.err
+  -- after a fault neither the stripe's history nor the caller has changed
+  pub left_err : {side own own_new : StripeSide} {sight : Sight} {caller_last : CallerView} → IsOpenStripe table config owner seen s side own → IsLeft owner s_new noting own_new sight
+      → caller_last ≡ caller_new → OnErr t ((own_new.stripe.history ≡ own.stripe.history) × (caller_last ≡ caller))
+  left_err {caller_last = caller_last} opened left same =
+      on_err_both t _ (caller_last ≡ caller)
+      (on_err_more t _ _ (λ (none : IsUntouched s s_new vs ws). ap (λ (x : StripeSide). x.stripe.history) left.is ∙ none.stripe ∙ ap (λ (x : StripeSide). x.stripe.history) opened.is) step.err)
+      (failed (caller_last ≡ caller) t (λ no. same ∙ known.unnoted no))
 
   -- a full history is that of the stripe
   pub left_full : {own_new : StripeSide} {sight : Sight} → IsLeft owner s_new noting own_new sight → (t ≡ Err HistoryFull → s.limit ≤ length s.history) → t ≡ Err HistoryFull
@@ -268,9 +272,6 @@ module _ {table : TableId} {config : Config} {command : Command} {turn : Turn} {
       let none : IsUntouched s s_new vs ws = subst (λ (x : Result Tried Fault). OnErr x (IsUntouched s s_new vs ws)) full step.err in
       let long : length s_new.history ≡ length s.history = ap (λ (h : List StripeEvent). length h) none.stripe in
       subst (λ (x : StripeSide). x.stripe.limit ≤ length x.stripe.history) (sym left.is) (omega (arith, refusal full, step.site.limit, long))
-
-  pub left_unnoted : {caller_last : CallerView} → caller_last ≡ caller_new → OnErr t (caller_last ≡ caller)
-  left_unnoted {caller_last = caller_last} same = failed (caller_last ≡ caller) t (λ no. same ∙ known.unnoted no)
 
   pub left_tried : {side own own_new : StripeSide} {sight : Sight} {caller_last : CallerView} → IsOpenStripe table config owner seen s side own → IsLeft owner s_new noting own_new sight → caller_last ≡ caller_new
       → (cs ds : List ClassSide) → (IsUntouched s s_new vs ws → Stay cs ds) → IfOk t (IsTriedUnder own.stripe own_new.stripe caller caller_last command turn given cs ds)

@@ -4,7 +4,7 @@ use Rattle.std.specs.Prelude.{IfOk, OnOk, OnErr, Option, None}
 use Rattle.std.proofs.lemmas.List.{append-nil, append_cancel_left}
 use Rattle.atomic_table.specs.Seated.{TableId}
 use Rattle.mc_item.specs.declared.{call_event.CallEvent.CallEvent, class_event.ClassEvent.ClassEvent, class_event.Surveyed.Surveyed, command.Command.Command}
-use Rattle.mc_item.specs.declared.{config.Config.Config, fault.Fault.Fault, item.ClassNo.ClassNo, item.Who.Who}
+use Rattle.mc_item.specs.declared.{config.Config.Config, fault.Fault.Fault, item.ClassNo.ClassNo, item.StripeNo.StripeNo, item.Who.Who}
 use Rattle.mc_item.specs.declared.class_event.ClassEvent.TheVariants as events
 use Rattle.mc_board.specs.Histories.{Grows, list_at}
 use Rattle.mc_board.specs.declared.rule.Sight.{Sight}
@@ -12,9 +12,9 @@ use Rattle.mc_board.proofs.PrefixLemmas.{prefix_self}
 use Rattle.mc_segment.specs.{ClassCalls.Makes, ClassCalls.Stays, ClassCalls.refused_event, ClassState.ClassView, ClassState.with_room}
 use Rattle.mc_stripe.specs.StripeState.{Stripe, cache_now}
 use Rattle.mc_pull.specs.declared.{judge.Done.Done, judge.Judge.Judge, judge.Judge.TheVariants.Walk, judge.Judge.TheVariants.Dead}
-use Rattle.mc_pull.specs.declared.{judge.Judge.TheVariants.Hit, looking.Judged.Judged}
+use Rattle.mc_pull.specs.declared.{judge.Judge.TheVariants.Hit, looking.Answer.Answer, looking.Judged.Judged}
 use Rattle.mc_pull.specs.declared.judge.Done.TheVariants as done
-use Rattle.mc_pull.specs.{Growth.GainsFor, Growth.NoneLooks, Judgement.done_of, Lent.EachPair, Looks.events_if, Perform.Call, Performed.GainsPart, Performed.IsPerformed, Performed.IsUntouched}
+use Rattle.mc_pull.specs.{Growth.GainsFor, Growth.NoneLooks, Judgement.done_of, Lent.EachPair, Looks.IsAnswered, Looks.events_if, Perform.Call, Performed.GainsPart, Performed.IsPerformed, Performed.IsUntouched}
 use Rattle.mc_pull.specs.{Question.Question, Question.question}
 use Rattle.mc_pull.specs.Suited.{AreSuited, MayNeedChunk}
 use Rattle.mc_pull.specs.Performed as performed
@@ -211,10 +211,10 @@ searches_failed who moment a b c h k l so more same = record {
 }
 
 -- or whatever a visit of another stripe came to
-pub searches_visited : {T : Type 0} (X : Type 0) (q : Question) (a b c : Sight) (h : List ClassEvent) (v w : ClassView) (j : Option Judged) (r : Result T Fault) → SearchesOwn q.who q.moment a b h v.history → Grows b c
-    → OnOk r (w ≡ class_with v (events_if v q j) w.room) → OnErr r ((w ≡ with_room v w.room) × X) → SearchesOwn q.who q.moment a c h w.history
-searches_visited X q a b c h v w j (Ok x) so more is err = searches_judged q a b c h v w j so more is
-searches_visited X q a b c h v w j (Err f) so more is err = searches_failed q.who q.moment a b c h v.history w.history so more (ap (λ (x : ClassView). x.history) err.0)
+pub searches_visited : {T : Type 0} (X : Type 0) (config : Config) (stripe : StripeNo) (xs ys : List Answer) (q : Question) (a b c : Sight) (h : List ClassEvent) (v w : ClassView) (j : Option Judged) (r : Result T Fault)
+    → SearchesOwn q.who q.moment a b h v.history → Grows b c → OnOk r (IsAnswered config stripe q v w xs ys j) → OnErr r ((w ≡ with_room v w.room) × X) → SearchesOwn q.who q.moment a c h w.history
+searches_visited X config stripe xs ys q a b c h v w j (Ok x) so more answered err = searches_judged q a b c h v w j so more answered.class
+searches_visited X config stripe xs ys q a b c h v w j (Err f) so more answered err = searches_failed q.who q.moment a b c h v.history w.history so more (ap (λ (x : ClassView). x.history) err.0)
 
 -- a command that may need a chunk may make what a search makes
 pub suited_search : (who : Who) (moment : ℕ) (command : Command) → MayNeedChunk command → (es : List ClassEvent) → AreOwnEvents who moment es → NoneSurveys es → AreSuited command es

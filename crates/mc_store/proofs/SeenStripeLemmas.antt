@@ -118,6 +118,10 @@ pub on_err_more : {X : Type 0} (r : Result X Fault) (P Q : Type 0) → (P → Q)
 on_err_more (Ok x) P Q more p = tt
 on_err_more (Err f) P Q more p = more p
 
+pub on_err_both : {X : Type 0} (r : Result X Fault) (P Q : Type 0) → OnErr r P → OnErr r Q → OnErr r (P × Q)
+on_err_both (Ok x) P Q p q = tt
+on_err_both (Err fault) P Q p q = (p, q)
+
 pub if_err_more : {X : Type 0} (r : Result X Fault) (P Q : Fault → Type 0) → ((f : Fault) → P f → Q f) → IfErr r P → IfErr r Q
 if_err_more (Ok x) P Q more p = tt
 if_err_more (Err f) P Q more p = more f p

@@ -1,6 +1,6 @@
 -- What a walker leaves by a gate that has one stripe at hand: visit by visit, and where its search was in vain.
 use Rattle.std.proofs.Common.{arith, ◌≤◌, ◌≡◌, ◌≢◌, ℕ, List, [], ◌∷◌, ◌++◌, Bool, true, false, Result, Ok, Err, inl, inr, refl, sym, ap, ◌∙◌, subst, append_assoc, append-nil}
-use Rattle.std.specs.Prelude.{◌&&◌, not, Option, Some, None, IsSome, IsSomeAnd, IfOk, OnOk, OnErr, is_some, nat_lt, option_map, if◌then◌else◌}
+use Rattle.std.specs.Prelude.{◌&&◌, not, Option, Some, None, IsSome, IsSomeAnd, OnOk, OnErr, nat_lt, option_map, if◌then◌else◌}
 use Rattle.std.proofs.lemmas.{Bool.Decides.nat_tests, List.append_cancel_left}
 use Rattle.mc_item.specs.{Cache.Cache, Item.is_dead, Measure.stripe_of, Stripe.IsAlive}
 use Rattle.mc_item.specs.declared.{answer.Site.Site, class_event.ClassEvent.ClassEvent, config.Config.Config, fault.Fault.Fault, item.Item.Item}
@@ -17,9 +17,9 @@ use Rattle.mc_pull.specs.declared.{judge.Done.Done, judge.Judge.Judge, judge.Jud
 use Rattle.mc_pull.specs.declared.{judge.Judge.TheVariants.Walk, looking.Answer.Answer, looking.Judged.Judged}
 use Rattle.mc_pull.specs.declared.judge.Done.TheVariants as done
 use Rattle.mc_pull.specs.Growth as classes
-use Rattle.mc_pull.specs.{Judgement.done_by, Judgement.done_of, Lone.AreMadeBy, Lone.StripeGrows, Looks.answer_by, Looks.events_if, Outcome.is_due}
+use Rattle.mc_pull.specs.{Judgement.done_by, Judgement.done_of, Lone.AreMadeBy, Lone.StripeGrows, Looks.IsAnswered, Looks.answer_by, Looks.events_if, Outcome.is_due}
 use Rattle.mc_pull.specs.{Question.HasKeyOf, Question.MayJudge, Question.MayJudgeBy, Question.Question, Rounds.IsRoom, Rounds.Rounds, Rounds.rounds}
-use Rattle.mc_pull.specs.{Settled.done_class_events, Settled.class_with, Settled.cold_events, Settled.warm_events, Walker.Walker, Walker.walker_of}
+use Rattle.mc_pull.specs.{Settled.done_class_events, Settled.cold_events, Settled.warm_events, Walker.Walker, Walker.walker_of}
 use Rattle.mc_pull.specs.Tried.{AreHad, AreTries, IsNoneNear, IsTried, IsTry}
 use Rattle.mc_pull.proofs.OutcomeLemmas.{Means, done_is, outcome_means}
 use Rattle.mc_store.proofs.CommandLemmas.{alive_behind}
@@ -206,12 +206,12 @@ module _ (c : ClassView) (q : Question) where
     others = λ key of alive. tt;
   }
 
-  pub looked_away : (config : Config) (w : Walker) (s : Stripe) (stripe : StripeNo) (xs xs_new : List Answer) (c_new : ClassView) (j : Option Judged) (r : Result Bool Fault) → MayJudge c q → HasKeyOf stripe config c q
-      → stripe ≢ record { 0 = s.site.stripe } → IfOk r (λ had. (is_some j ≡ had) × (xs_new ≡ xs ++ answer_by stripe j ∷ [])) → OnOk r (c_new ≡ class_with c (events_if c q j) c_new.room)
+  pub looked_away : (config_at config : Config) (w : Walker) (s : Stripe) (stripe : StripeNo) (xs xs_new : List Answer) (c_new : ClassView) (j : Option Judged) (r : Result Bool Fault) → MayJudge c q
+      → HasKeyOf stripe config c q → stripe ≢ record { 0 = s.site.stripe } → OnOk r (IsAnswered config_at stripe q c c_new xs xs_new j)
       → OnErr r ((c_new ≡ with_room c c_new.room) × (xs_new ≡ xs)) → HasLooked config.stripes w s xs xs_new c.history c_new.history
-  looked_away config w s stripe xs xs_new c_new j (Ok had) may keyed apart answered is err =
-      away config w s stripe xs xs_new c_new.history j may keyed apart answered.1 (ap (λ (v : ClassView). v.history) is)
-  looked_away config w s stripe xs xs_new c_new j (Err fault) may keyed apart answered is err = same_after config.stripes w s xs xs_new c_new err.0 err.1
+  looked_away config_at config w s stripe xs xs_new c_new j (Ok had) may keyed apart answered err =
+      away config w s stripe xs xs_new c_new.history j may keyed apart answered.answers (ap (λ (v : ClassView). v.history) answered.class)
+  looked_away config_at config w s stripe xs xs_new c_new j (Err fault) may keyed apart answered err = same_after config.stripes w s xs xs_new c_new err.0 err.1
 
   -- ---- a visit of the stripe at hand
   -- what a judgement with the stripe tells, where the stripe had only seen more

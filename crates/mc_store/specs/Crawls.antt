@@ -5,16 +5,17 @@ use Rattle.mc_item.specs.declared.{class_event.ClassEvent.ClassEvent, config.Con
 use Rattle.mc_item.specs.declared.{event.Event.TheVariants.Call, event.Event.TheVariants.Class, event.Event.TheVariants.Stripe, item.ClassNo.ClassNo}
 use Rattle.mc_item.specs.declared.{item.Link.Link, item.Who.Who}
 use Rattle.mc_item.specs.Counts.{no_counts}
-use Rattle.mc_evidence.specs.{Locks.ClassKeeps, Seen.stripes_seen}
+use Rattle.mc_evidence.specs.{Locks.ClassKeeps, Seen.stripes_seen, Setting.IsClass}
 use Rattle.mc_rule.specs.Lists.{count_of, lists_of}
 use Rattle.mc_board.specs.Histories.{list_at}
 use Rattle.mc_board.specs.declared.rule.Sight.{Sight}
 use Rattle.mc_segment.specs.ClassState.{ClassView, opened}
 use Rattle.mc_pull.specs.Question.{IsClassOf}
 use Rattle.mc_pull.specs.declared.looking.Answer.{Answer}
-use Rattle.mc_crawl.specs.{Crawl.IsCrawled, Crawl.IsReclaim, Crawl.crawl, CrawlCount.IsBalanced, CrawlCount.counted_as, Snapshot.links_of}
+use Rattle.mc_crawl.specs.{Crawl.IsCrawled, Crawl.IsReclaim, Crawl.Reclaims, Crawl.crawl, CrawlCount.IsBalanced, CrawlCount.counted_as, Snapshot.links_of}
 use Rattle.mc_crawl.specs.declared.kind.Kind.{Kind}
-use Rattle.mc_store.specs.{Locked.class_lock, Locked.setting_of, Sides.class_told}
+use Rattle.mc_stripe.specs.declared.trying.Turn.{Turn}
+use Rattle.mc_store.specs.{Callers.crawling_of, Locked.class_lock, Locked.setting_of, Passes.HasCalled, Passes.PassView, Passes.caller_of, Sides.class_told}
 
 -- at least so many of these events are a `Reclaimed` by this call, at this moment
 abbrev pub HasReclaims : Who → ℕ → ℕ → List Event → Type 0
@@ -55,6 +56,12 @@ pub record CountsLink (config : Config) (c c_new : ClassView) (who : Who) (momen
   pub crawled : IsCrawled (crawl who link.number moment config) c c_new answers answers_new kind
   pub counts : histogram_new ≡ counted_as kind histogram
 
+-- a link was crawled and counted, as `CountsLink` says, once as seen, and what was reclaimed has its events
+pub record CountsOne (config : Config) (c c_new : ClassView) (turn : Turn) (link : Link) (histogram histogram_new : Histogram) : Type 0 where
+  pub counted : CountsLink config c c_new turn.who turn.moment link histogram histogram_new
+  pub seen : histogram_new.seen ≡ histogram.seen + 1
+  pub reclaims : Reclaims turn.who turn.moment c.history c_new.history histogram.reclaimed histogram_new.reclaimed
+
 -- a link was counted under its class's lock: what was seen before is a beginning of the class's old history, and what is seen
 -- after is all of its new one
 pub record IsLinkCounted (config : Config) (class : ClassNo) (seen seen_new : List Event) (who : Who) (moment : ℕ) (link : Link)
@@ -66,6 +73,19 @@ pub record IsLinkCounted (config : Config) (class : ClassNo) (seen seen_new : Li
   pub begins : IsPrefix seen (class_told old.history)
   pub now : seen_new ≡ class_told new.history
   pub counted : CountsLink config old new who moment link histogram histogram_new
+
+-- a call may crawl links of a class: the class is of the store, and the call has just begun in its pass
+pub record MayCrawl (config : Config) (pass : PassView) (class : ClassNo) (turn : Turn) : Type 0 where
+  pub of : IsClass (setting_of config) class
+  pub called : HasCalled (caller_of pass) turn.who turn.moment (crawling_of class turn.moment)
+
+-- a link was counted, as `IsLinkCounted` says by what a pass has seen, once as seen, and the pass has come to see what was reclaimed
+pub record HasCountedLink (config : Config) (class : ClassNo) (before after : Sight) (turn : Turn) (link : Link) (histogram histogram_new : Histogram) :
+    Type 0 where
+  pub seen : histogram_new.seen ≡ histogram.seen + 1
+  pub reclaims : ShowsReclaims config class before after turn.who turn.moment histogram.reclaimed histogram_new.reclaimed
+  pub counted : IsLinkCounted config class (list_at before.seen (class_lock config class)) (list_at after.seen (class_lock config class)) turn.who turn.moment
+      link histogram histogram_new
 
 -- these links of a class were counted one after another, each count starting from the one before
 abbrev pub AreLinksCounted : Config → ClassNo → List Event → List Event → Who → ℕ → List Link → Histogram → Histogram → Type 0

@@ -4,7 +4,8 @@ use Rattle.std.specs.List.{Contains}
 use Rattle.mc_item.specs.declared.{class_event.ClassEvent.ClassEvent, command.Command.Command, config.Config.Config, item.ClassNo.ClassNo, item.Link.Link}
 use Rattle.mc_item.specs.declared.{item.Who.Who, reply.Reply.Reply, reply.Room.Room, stripe_event.StripeEvent.StripeEvent}
 use Rattle.mc_item.specs.declared.stripe_event.StripeEvent.TheVariants as events
-use Rattle.mc_evidence.specs.Setting.{site_in}
+use Rattle.atomic_table.specs.Seated.{TableId}
+use Rattle.mc_evidence.specs.Setting.{IsClass, site_in}
 use Rattle.mc_board.specs.Histories.{list_at}
 use Rattle.mc_board.specs.declared.rule.Sight.{Sight}
 use Rattle.mc_hits.specs.Views.{HandsView, hit_of, hits_at, with_hit}
@@ -12,11 +13,19 @@ use Rattle.mc_hits.specs.declared.rule.Hit.{Hit}
 use Rattle.mc_stripe.specs.declared.trying.Turn.{Turn}
 use Rattle.mc_pull.specs.{Advance.MovesIf, Question.question}
 use Rattle.mc_pull.specs.declared.judge.Judge.TheVariants as judges
-use Rattle.mc_store.specs.{Headline.answered_did, Locked.setting_of, Sides.stripe_told, Waking.MakesActive}
+use Rattle.mc_store.specs.Locked.{HasBegunAs, setting_of}
+use Rattle.mc_store.specs.{Callers.juggling_of, Headline.answered_did, Sides.ClassSide, Sides.stripe_told, Waking.MakesActive}
 
 -- the queue of a class
 abbrev pub queue_of : ClassNo → ℕ
 queue_of class = class.0 - 1
+
+-- a call may work on a class and its queue: the class is of the store and has seen that just this call began, and the hands are
+-- for the store's queues
+pub record MayUpkeep (config : Config) (tables : List TableId) (class : ClassSide) (turn : Turn) (hands : HandsView) : Type 0 where
+  pub of : IsClass (setting_of config) class.class.number
+  pub begun : HasBegunAs config class.sight turn.who turn.moment (juggling_of class.class.number turn.moment)
+  pub tables_are : hands.tables ≡ tables
 
 -- the hands after a hit was offered to a queue
 abbrev pub with_offer : HandsView → ℕ → Hit → HandsView

@@ -9,6 +9,7 @@ pub mod Serving
 pub mod Full
 pub mod Performing
 pub mod Looked
+pub mod Walking
 pub mod Earned
 pub mod Waking
 pub mod Calls
@@ -18,3 +19,4 @@ pub mod Headline
 pub mod Hits
 pub mod Trying
 pub mod Held
+pub mod Opening

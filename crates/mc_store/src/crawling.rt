@@ -4,12 +4,11 @@ ghost use Rattle.mc_item.specs.declared.fault.Fault.TheVariants.{HistoryFull, No
 ghost use Rattle.mc_evidence.specs.Setting.{IsClass};
 ghost use Rattle.mc_board.specs.Histories.{list_at};
 ghost use Rattle.mc_pull.specs.Growth as classes;
-ghost use Rattle.mc_crawl.specs.{Crawl.Reclaims, CrawlCount.IsBalanced, CrawlCount.MayCount};
-ghost use Rattle.mc_store.specs.Crawls.{CountsLink, IsCrawledBy, IsLinkCounted, IsSeenSound, IsSnapshot, ShowsReclaims};
-ghost use Rattle.mc_store.specs.{Locked.class_lock, Locked.setting_of, Locked.HasBegun, Locked.HasBegunAs, Passes.next_who, Passes.caller_of, Passes.HasCalled};
-ghost use Rattle.mc_store.specs.{Made.WalksOwn, Sides.class_told, Serving.HasSeenShort, Serving.IsLater, Serving.IsServed, Serving.MayFailSeen};
+ghost use Rattle.mc_crawl.specs.CrawlCount.{IsBalanced, MayCount};
+ghost use Rattle.mc_store.specs.Crawls.{CountsOne, HasCountedLink, IsCrawledBy, IsSeenSound, IsSnapshot, MayCrawl};
+ghost use Rattle.mc_store.specs.{Locked.class_lock, Locked.setting_of, Locked.HasBegunAs, Passes.next_who};
+ghost use Rattle.mc_store.specs.{Sides.class_told, Serving.HasSeenShort, Serving.IsLater, Serving.MayFailSeen, Walking.LeavesTokens, Walking.MayTry};
 ghost use Rattle.mc_store.specs.Callers.{crawling_of, turns_of};
-ghost use Rattle.mc_pull.specs.Question.{IsClassOf};
 
 use crate::gates::Trying;
 use crate::locked::LockedClass;
@@ -25,6 +24,14 @@ use mc_stripe::Turn;
 use std::alloc::Global;
 use std::sync::Wait;
 
+// What is fixed for the crawl of a class: the allocator, the class, and the call's turn.
+#[derive(Clone, Copy)]
+struct Crawling {
+    alloc: Global,
+    class: ClassNo,
+    turn: Turn,
+}
+
 impl<'a, N: Named> Trying<'a, N> {
     // Crawls one link of a class by `crawl_one`, whose contract is for any gate. This one adds what is true of this gate: it
     // holds the same references, and the class gains only events of this call.
@@ -35,25 +42,15 @@ impl<'a, N: Named> Trying<'a, N> {
         link: Link,
         histogram: &mut Histogram,
     ) -> Result<(), Fault>
-        requires config { IsClassOf context.config.now class.old }
-        requires names { context.config.now ≡ N.config }
-        requires served { IsServed N.board.table N.config self.old.owner.now self.old.seen.now class.old }
-        requires begun { HasBegun N.config self.old.seen.now.sight self.old.who self.old.moment }
+        requires gate { MayTry N.board.table N.config context self.old.owner.now self.old.seen.now class.old self.old.who self.old.moment }
         requires counts { MayCount histogram.old }
-        ensures seen { OnOk result (histogram.new.seen ≡ histogram.old.seen + 1) }
+        ensures counted { OnOk result (CountsOne context.entry.config.now class.old class.new context.entry.turn link histogram.old histogram.new) }
         ensures balanced { IsBalanced histogram.old → IsBalanced histogram.new }
-        ensures reclaims { OnOk result (Reclaims context.entry.turn.who context.entry.turn.moment class.old.history class.new.history histogram.old.reclaimed
-            histogram.new.reclaimed) }
-        ensures counted { OnOk result (CountsLink context.entry.config.now class.old class.new context.entry.turn.who context.entry.turn.moment link
-            histogram.old histogram.new) }
         ensures err { OnErr result (class.new.history ≡ class.old.history) }
-        ensures grows { classes.GainsEvents class.old class.new }
         ensures fault { IfErr result (MayFailSeen N.config self.new.seen.now.sight class.new) }
-        ensures owner_reference { self.new.owner.ghost_name ≡ self.old.owner.ghost_name }
-        ensures seen_reference { self.new.seen.ghost_name ≡ self.old.seen.ghost_name }
-        ensures served { IsServed N.board.table N.config self.new.owner.now self.new.seen.now class.new }
-        ensures walked { WalksOwn context.entry.turn.who context.entry.turn.moment self.old.seen.now.sight self.new.seen.now.sight class.old.history
-            class.new.history }
+        ensures references { (self.new.owner.ghost_name ≡ self.old.owner.ghost_name) × (self.new.seen.ghost_name ≡ self.old.seen.ghost_name) }
+        ensures left { LeavesTokens N.board.table N.config context.entry.turn.who context.entry.turn.moment self.old.seen.now.sight class.old
+            self.new.owner.now self.new.seen.now class.new }
     {
         crawl_one(context, class, link, histogram, self)
     }
@@ -70,11 +67,8 @@ fn crawl_under<N: Named>(
 ) -> Result<(), Fault>
     requires begun { HasBegunAs N.config class.old.sight turn.who turn.moment (crawling_of class.old.class.number turn.moment) }
     requires counts { MayCount histogram.old }
-    ensures seen { OnOk result (histogram.new.seen ≡ histogram.old.seen + 1) }
+    ensures counted { OnOk result (CountsOne N.config class.old.class class.new.class turn link histogram.old histogram.new) }
     ensures balanced { IsBalanced histogram.old → IsBalanced histogram.new }
-    ensures reclaims { OnOk result (Reclaims turn.who turn.moment class.old.class.history class.new.class.history histogram.old.reclaimed
-        histogram.new.reclaimed) }
-    ensures counted { OnOk result (CountsLink N.config class.old.class class.new.class turn.who turn.moment link histogram.old histogram.new) }
     ensures class { classes.GainsEvents class.old.class class.new.class }
     ensures fault { IfErr result (MayFailSeen N.config class.new.sight class.new.class) }
 {
@@ -127,28 +121,22 @@ impl<N: Named> Store<N> {
     // Crawls one link of a class under its lock, for which it waits.
     fn crawl_link(
         &self,
-        alloc: Global,
         rt: &impl Wait,
         pass: &mut Pass<N>,
-        class: ClassNo,
+        crawling: Crawling,
         link: Link,
-        turn: Turn,
         histogram: &mut Histogram,
     ) -> Result<(), Fault>
-        requires class { IsClass (setting_of N.config) class }
-        requires called { HasCalled (caller_of pass.old) turn.who turn.moment (crawling_of class turn.moment) }
+        requires may { MayCrawl N.config pass.old crawling.class crawling.turn }
         requires counts { MayCount histogram.old }
-        ensures seen { OnOk result (histogram.new.seen ≡ histogram.old.seen + 1) }
         ensures balanced { IsBalanced histogram.old → IsBalanced histogram.new }
-        ensures reclaims { OnOk result (ShowsReclaims N.config class pass.old.sight pass.new.sight turn.who turn.moment histogram.old.reclaimed
-            histogram.new.reclaimed) }
-        ensures counted { OnOk result (IsLinkCounted N.config class (list_at pass.old.sight.seen (class_lock N.config class)) (list_at pass.new.sight.seen
-            (class_lock N.config class)) turn.who turn.moment link histogram.old histogram.new) }
-        ensures sound { IsSeenSound N.config class pass.new.sight }
+        ensures counted { OnOk result (HasCountedLink N.config crawling.class pass.old.sight pass.new.sight crawling.turn link histogram.old histogram.new) }
+        ensures sound { IsSeenSound N.config crawling.class pass.new.sight }
         ensures grows { IsLater pass.old.sight pass.new.sight }
         ensures same { pass.new ≡ record pass.old { sight = pass.new.sight } }
         ensures full { IsErrOf result HistoryFull → HasSeenShort N.config pass.new.sight }
     {
+        let Crawling { alloc, class, turn } = crawling;
         let mut guard = self.lock_class(rt, class);
         let own = &mut *guard;
         own.side.compare(&self.board, &mut pass.seen);
@@ -188,15 +176,9 @@ impl<N: Named> Store<N> {
         let links = self.snapshot_of(alloc, rt, pass, class)?;
         let mut histogram = Histogram::new();
         for i in 0..links.len() {
-            self.crawl_link(
-                alloc,
-                rt,
-                pass,
-                class,
-                links[i],
-                Turn { who, moment },
-                &mut histogram,
-            )?;
+            let turn = Turn { who, moment };
+            let crawling = Crawling { alloc, class, turn };
+            self.crawl_link(rt, pass, crawling, links[i], &mut histogram)?;
         }
         Ok(histogram)
     }

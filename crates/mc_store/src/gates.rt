@@ -1,10 +1,9 @@
 //! Gates: how a walk under a class's lock reaches the stripes of its entries. A stripe's lock is tried, and never waited for.
 ghost use Rattle.std.specs.Prelude.{◌≡◌, ◌≢◌, ◌≤◌, ◌+◌, List, IfErr, IfOk, false, true};
-ghost use Rattle.mc_pull.specs.{Growth.GainsEvents, Growth.GainsFor, Juggle.IsJuggle, Lone.StripeGrows, Question.IsClassOf, Rounds.IsRoom, Rounds.rounds_by};
+ghost use Rattle.mc_pull.specs.{Growth.GainsEvents, Growth.GainsFor, Juggle.IsJuggle, Rounds.IsRoom, Rounds.rounds_by};
 ghost use Rattle.mc_pull.specs.Walker.{walker_by};
 ghost use Rattle.mc_pull.specs.declared.looking.Answer.{Answer};
-ghost use Rattle.mc_store.specs.{Earned.IsSearchInVain, Looked.IsOfCall, Serving.IsServed, Serving.MayFailSeen, Locked.HasBegun};
-ghost use Rattle.mc_store.specs.Made.{SearchesOwn, WalksOwn};
+ghost use Rattle.mc_store.specs.{Earned.IsSearchInVain, Looked.IsOfCall, Serving.MayFailSeen, Walking.LeavesSearch, Walking.LeavesTokens, Walking.MayTry};
 
 use crate::judging::judge;
 use crate::locked::LockedStripe;
@@ -52,19 +51,14 @@ impl<'a, N: Named> Trying<'a, N> {
         context: Context<'_>,
         class: &mut ClassState,
     ) -> Result<Moves, Fault>
-        requires config { IsClassOf context.config.now class.old }
-        requires names { context.config.now ≡ N.config }
-        requires served { IsServed N.board.table N.config self.old.owner.now self.old.seen.now class.old }
-        requires begun { HasBegun N.config self.old.seen.now.sight self.old.who self.old.moment }
+        requires gate { MayTry N.board.table N.config context self.old.owner.now self.old.seen.now class.old self.old.who self.old.moment }
         ensures juggle { IfOk result (λ moves. (xs : List Answer) × IsJuggle (rounds_by class.old context.entry) class.old.history xs class.new.history moves) }
         ensures few { IfOk result (λ moves. moves.reclaimed + moves.moved ≤ 10000) }
         ensures gains { GainsFor false class.old class.new }
         ensures fault { IfErr result (MayFailSeen N.config self.new.seen.now.sight class.new) }
-        ensures owner_reference { self.new.owner.ghost_name ≡ self.old.owner.ghost_name }
-        ensures seen_reference { self.new.seen.ghost_name ≡ self.old.seen.ghost_name }
-        ensures served { IsServed N.board.table N.config self.new.owner.now self.new.seen.now class.new }
-        ensures walked { WalksOwn context.entry.turn.who context.entry.turn.moment self.old.seen.now.sight self.new.seen.now.sight class.old.history
-            class.new.history }
+        ensures references { (self.new.owner.ghost_name ≡ self.old.owner.ghost_name) × (self.new.seen.ghost_name ≡ self.old.seen.ghost_name) }
+        ensures left { LeavesTokens N.board.table N.config context.entry.turn.who context.entry.turn.moment self.old.seen.now.sight class.old
+            self.new.owner.now self.new.seen.now class.new }
     {
         juggle(context, class, self)
     }
@@ -187,20 +181,15 @@ impl<'a, 'b, N: Named> Holding<'a, 'b, N> {
         context: Context<'_>,
         class: &mut ClassState,
     ) -> Result<bool, Fault>
-        requires config { IsClassOf context.config.now class.old }
-        requires names { context.config.now ≡ N.config }
-        requires served { IsServed N.board.table N.config self.old.others.owner.now self.old.others.seen.now class.old }
-        requires begun { HasBegun N.config self.old.others.seen.now.sight self.old.others.who self.old.others.moment }
+        requires gate { MayTry N.board.table N.config context self.old.others.owner.now self.old.others.seen.now class.old self.old.others.who
+            self.old.others.moment }
         ensures room { IfOk result (λ found. (xs : List Answer) × IsRoom (rounds_by class.old context.entry) class.old.history xs class.new.history found) }
         ensures grows { GainsEvents class.old class.new }
         ensures fault { IfErr result (MayFailSeen N.config self.new.others.seen.now.sight class.new) }
-        ensures own_reference { self.new.own.ghost_name ≡ self.old.own.ghost_name }
-        ensures owner_reference { self.new.others.owner.ghost_name ≡ self.old.others.owner.ghost_name }
-        ensures seen_reference { self.new.others.seen.ghost_name ≡ self.old.others.seen.ghost_name }
-        ensures served { IsServed N.board.table N.config self.new.others.owner.now self.new.others.seen.now class.new }
-        ensures stripe { StripeGrows (walker_by class.old context.entry) self.old.own.now.stripe self.new.own.now.stripe }
-        ensures searched { SearchesOwn context.entry.turn.who context.entry.turn.moment self.old.others.seen.now.sight self.new.others.seen.now.sight
-            class.old.history class.new.history }
+        ensures references { (self.new.own.ghost_name ≡ self.old.own.ghost_name) × (self.new.others.owner.ghost_name ≡ self.old.others.owner.ghost_name)
+            × (self.new.others.seen.ghost_name ≡ self.old.others.seen.ghost_name) }
+        ensures left { LeavesSearch N.board.table N.config (walker_by class.old context.entry) self.old.others.seen.now.sight class.old
+            self.old.own.now.stripe self.new.others.owner.now self.new.others.seen.now class.new self.new.own.now.stripe }
         ensures tried { IfOk result (λ found. found ≡ false → IsOfCall (walker_by class.old context.entry) self.old.others.who self.old.others.moment →
             IsSearchInVain N.config class.old self.old.own.now.stripe context.entry.turn.who context.entry.turn.moment class.new.history) }
     {

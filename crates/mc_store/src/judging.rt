@@ -1,10 +1,8 @@
 //! Judging one entry with its key's stripe, both under locks.
-ghost use Rattle.std.specs.Prelude.{◌≡◌, true, is_some, None, IfErr, IsSomeAnd, OnOk, OnErr};
+ghost use Rattle.std.specs.Prelude.{◌≡◌, IfErr, OnOk, OnErr};
 ghost use Rattle.mc_segment.specs.ClassState.{with_room};
-ghost use Rattle.mc_pull.specs.{Lone.StripeGrows, Looks.events_if, Looks.IsJudgedIf, Settled.class_with, Walker.walker_of};
-ghost use Rattle.mc_pull.specs.Question.{question_of, HasKeyOf, MayJudge};
-ghost use Rattle.mc_store.specs.{Looked.IsKnown, Serving.IsServed, Serving.MayFailSeen, Locked.HasBegun};
-ghost use Rattle.mc_board.specs.Histories.{Grows};
+ghost use Rattle.mc_pull.specs.{Question.question_of, Walker.walker_of};
+ghost use Rattle.mc_store.specs.{Serving.MayFailSeen, Walking.IsJudgedUnder, Walking.LeavesJudged, Walking.MayJudgeUnder};
 
 use crate::locked::LockedStripe;
 use crate::named::Named;
@@ -24,23 +22,12 @@ pub(crate) fn judge<N: Named>(
     look: &mut Look<'_>,
 ) -> Result<(), Fault>
     requires board { board.now ≡ N.board }
-    requires config { look.old.ask.config.now ≡ N.config }
-    requires served { IsServed N.board.table N.config owner.old seen.old look.old.class.now }
-    requires may { MayJudge look.old.class.now (question_of look.old.ask) }
-    requires begun { HasBegun N.config stripe.old.sight look.old.ask.who look.old.ask.moment }
-    requires once { look.old.judged ≡ None }
+    requires look { MayJudgeUnder N.board.table N.config owner.old seen.old look.old stripe.old.sight }
     ensures same_reference { look.new.class.ghost_name ≡ look.old.class.ghost_name }
-    ensures had { OnOk result (is_some look.new.judged ≡ true) }
-    ensures class { OnOk result (look.new.class.now ≡ class_with look.old.class.now (events_if look.old.class.now (question_of look.old.ask) look.new.judged)
-        look.new.class.now.room) }
-    ensures judged { OnOk result (IsJudgedIf N.config (record { 0 = stripe.old.stripe.site.stripe }) look.old.class.now (question_of look.old.ask)
-        look.new.judged) }
-    ensures known { OnOk result (HasKeyOf (record { 0 = stripe.old.stripe.site.stripe }) N.config look.old.class.now (question_of look.old.ask)
-        → IsSomeAnd look.new.judged (IsKnown look.old.class.now stripe.old.stripe (question_of look.old.ask))) }
+    ensures judged { OnOk result (IsJudgedUnder N.config stripe.old.stripe (question_of look.old.ask) look.old.class.now look.new.class.now look.new.judged) }
     ensures err { OnErr result (look.new.class.now ≡ with_room look.old.class.now look.new.class.now.room) }
-    ensures served { IsServed N.board.table N.config owner.new seen.new look.new.class.now }
-    ensures stripe { StripeGrows (walker_of look.old.class.now look.old.ask.who look.old.ask.moment) stripe.old.stripe stripe.new.stripe }
-    ensures sees { Grows seen.old.sight seen.new.sight }
+    ensures left { LeavesJudged N.board.table N.config (walker_of look.old.class.now look.old.ask.who look.old.ask.moment) seen.old.sight stripe.old.stripe
+        owner.new seen.new look.new.class.now stripe.new.stripe }
     ensures fault { IfErr result (MayFailSeen N.config seen.new.sight look.new.class.now) }
 {
     catch_up_class(look.class, owner, board);

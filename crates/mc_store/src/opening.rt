@@ -1,9 +1,9 @@
 //! Opening a store.
-ghost use Rattle.std.specs.Prelude.{◌≡◌, ◌≤◌, ◌<◌, ◌+◌, ◌-◌, ◌^◌, [], IfOk, length};
+ghost use Rattle.std.specs.Prelude.{◌≡◌, ◌≤◌, ◌<◌, ◌+◌, ◌-◌, ◌^◌, [], IfOk};
 ghost use Rattle.mc_item.specs.Config.{IsBounded, IsSound};
-ghost use Rattle.mc_board.specs.{Histories.blind, Views.locks_of, Views.AreOwners};
-ghost use Rattle.mc_hits.specs.Views.{AreHands, tables_of, untouched_hands};
-ghost use Rattle.mc_store.specs.{Locked.histories_for, Locked.locks_for, Passes.ArePasses, Passes.new_pass};
+ghost use Rattle.mc_board.specs.Histories.{blind};
+ghost use Rattle.mc_hits.specs.Views.{tables_of, untouched_hands};
+ghost use Rattle.mc_store.specs.{Locked.histories_for, Locked.locks_for, Opening.AreParts, Passes.ArePasses, Passes.new_pass};
 
 use crate::caller::Caller;
 use crate::locked::{LockedClass, LockedStripe};
@@ -118,13 +118,8 @@ impl<N: Named> Store<N> {
         tokens: Tokens,
         seed: RandomState,
     ) -> Result<(Store<N>, Vec<Pass<N>>), NoMemory>
-        requires board { tokens.board ≡ N.board }
-        requires config { (config ≡ N.config) × IsBounded N.config × IsSound N.config }
-        requires locks { locks_of N.board.counts ≡ histories_for N.config }
-        requires owners { AreOwners N.board.table (histories_for N.config) tokens.owners.items }
-        requires seen { tokens.seen ≡ record { board = N.board.table; sight = blind } }
-        requires queues { (tokens.queues ≡ N.queues) × (length N.queues ≡ length N.config.sizes) }
-        requires hands { AreHands (tables_of N.queues) N.config.callers tokens.hands.items }
+        requires named { (tokens.board ≡ N.board) × (config ≡ N.config) × (tokens.queues ≡ N.queues) }
+        requires fit { AreParts N.board N.config N.queues tokens }
         ensures passes { IfOk result (λ r. ArePasses (tables_of N.queues) N.config.callers r.1.items) }
     {
         let Tokens {

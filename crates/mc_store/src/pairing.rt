@@ -1,7 +1,6 @@
 //! Steps on a stripe and classes under their locks. Before each step the views of stripe and classes are synced. After it the
 //! board gets the new events, and the views are synced again.
 ghost use Rattle.std.specs.Prelude.{ℕ, ◌≡◌, ◌≤◌, ◌<◌, ◌+◌, ◌∷◌, [], true, false, ◌++◌, IfOk, OnOk, OnErr, IsErrOf, length};
-ghost use mathlib.Core.List.{IsPrefix};
 ghost use Rattle.mc_item.specs.declared.fault.Fault.TheVariants.{HistoryFull};
 ghost use Rattle.mc_evidence.specs.Seen.{classes_seen};
 ghost use Rattle.mc_rule.specs.Lists.{IsFull};
@@ -10,14 +9,13 @@ ghost use Rattle.mc_board.specs.Histories.{Grows, list_at};
 ghost use Rattle.mc_pull.specs.{Agreeing.AgreeNow, Perform.call};
 ghost use Rattle.mc_pull.specs.Growth as classes;
 ghost use Rattle.mc_store.specs.{Callers.IsUnanswered, Callers.answered_at, Callers.calls_told, Locked.HasBegunSearch, Locked.caller_place};
-ghost use Rattle.mc_store.specs.Sides.{class_told, stripe_told};
+ghost use Rattle.mc_store.specs.Sides.{class_told};
 
 use crate::caller::Caller;
 use crate::locked::{LockedClass, LockedStripe};
 use crate::named::Named;
 use crate::owned_class::catch_up_class;
-use crate::owned_stripe::catch_up_stripe;
-use mc_board::{Board, Owner, Seen};
+use mc_board::{Board, Seen};
 use mc_item::{Fault, Who};
 use mc_stripe::StripeState;
 
@@ -60,21 +58,18 @@ pub(crate) fn refuse<N: Named>(
     place
 }
 
-// Adds a stripe's new events to the board. If a command was answered, its caller notes where, and the stripe sees that.
+// If a command was answered, its caller notes where in the stripe's history, and the stripe sees that.
 #[inline(always)]
-pub(crate) fn put_if<N: Named>(
+pub(crate) fn note_if<N: Named>(
     board: &Board,
     caller: &mut Caller<N>,
     state: &StripeState,
-    owner: &mut Owner,
     seen: &mut Seen,
     place: u64,
     done: bool,
 )
-    requires board { (board.now ≡ N.board) × (owner.old.board ≡ N.board.table) × (seen.old.board ≡ N.board.table) }
-    requires behind { IsPrefix owner.old.history (stripe_told state.now.history) }
+    requires board { (board.now ≡ N.board) × (seen.old.board ≡ N.board.table) }
     requires last { IsUnanswered caller.old.calls }
-    ensures owner { owner.new ≡ record owner.old { history = stripe_told state.now.history } }
     ensures board { seen.new.board ≡ seen.old.board }
     ensures grows { Grows seen.old.sight seen.new.sight }
     ensures of { done ≡ true → caller.old.number < N.config.callers }
@@ -82,7 +77,6 @@ pub(crate) fn put_if<N: Named>(
     ensures noted { done ≡ true → caller.new ≡ record caller.old { calls = caller.old.calls ++ answered_at state.now.site.stripe place ∷ [] } }
     ensures unnoted { done ≡ false → caller.new ≡ caller.old }
 {
-    catch_up_stripe(state, owner, board);
     if done {
         caller.note(board, state.number(), place, seen);
     }

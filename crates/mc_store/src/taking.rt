@@ -1,12 +1,11 @@
 //! Taking the hits of a class's queue, and advancing the entries that they name.
 ghost use Rattle.std.specs.Prelude.{false, ◌≡◌, ◌+◌, ◌≤◌, IfOk, IfErr, OnOk, OnErr};
-ghost use Rattle.mc_evidence.specs.Setting.{IsClass};
 ghost use Rattle.mc_hits.specs.Views.{tables_of};
 ghost use Rattle.mc_pull.specs.Growth as classes;
-ghost use Rattle.mc_pull.specs.{Advance.MovesIf, Question.question, Question.question_by, Question.IsClassOf};
+ghost use Rattle.mc_pull.specs.{Advance.MovesIf, Question.question, Question.question_by};
 ghost use Rattle.mc_pull.specs.declared.judge.Judge.TheVariants as judges;
-ghost use Rattle.mc_store.specs.{Callers.juggling_of, Calls.IsUpkept, Hits.IsAdvancedBy, Hits.IsAdvancedTill, Hits.Takes, Hits.queue_of};
-ghost use Rattle.mc_store.specs.{Locked.HasBegun, Locked.HasBegunAs, Locked.setting_of, Made.WalksOwn, Serving.IsServed, Serving.MayFailSeen};
+ghost use Rattle.mc_store.specs.{Callers.juggling_of, Calls.IsUpkept, Hits.IsAdvancedBy, Hits.IsAdvancedTill, Hits.MayUpkeep, Hits.Takes, Hits.queue_of};
+ghost use Rattle.mc_store.specs.{Locked.HasBegunAs, Serving.MayFailSeen, Walking.LeavesTokens, Walking.MayTry};
 
 use crate::gates::Trying;
 use crate::locked::LockedClass;
@@ -34,19 +33,14 @@ impl<'a, N: Named> Trying<'a, N> {
         class: &mut ClassState,
         number: u64,
     ) -> Result<bool, Fault>
-        requires config { IsClassOf context.config.now class.old }
-        requires names { context.config.now ≡ N.config }
-        requires served { IsServed N.board.table N.config self.old.owner.now self.old.seen.now class.old }
-        requires begun { HasBegun N.config self.old.seen.now.sight self.old.who self.old.moment }
+        requires gate { MayTry N.board.table N.config context self.old.owner.now self.old.seen.now class.old self.old.who self.old.moment }
         ensures moves { IfOk result (MovesIf (question_by context.entry number judges.Hit) class.old.history class.new.history) }
         ensures err { OnErr result (class.new.history ≡ class.old.history) }
         ensures gains { classes.GainsFor false class.old class.new }
         ensures fault { IfErr result (MayFailSeen N.config self.new.seen.now.sight class.new) }
-        ensures owner_reference { self.new.owner.ghost_name ≡ self.old.owner.ghost_name }
-        ensures seen_reference { self.new.seen.ghost_name ≡ self.old.seen.ghost_name }
-        ensures served { IsServed N.board.table N.config self.new.owner.now self.new.seen.now class.new }
-        ensures walked { WalksOwn context.entry.turn.who context.entry.turn.moment self.old.seen.now.sight self.new.seen.now.sight class.old.history
-            class.new.history }
+        ensures references { (self.new.owner.ghost_name ≡ self.old.owner.ghost_name) × (self.new.seen.ghost_name ≡ self.old.seen.ghost_name) }
+        ensures left { LeavesTokens N.board.table N.config context.entry.turn.who context.entry.turn.moment self.old.seen.now.sight class.old
+            self.new.owner.now self.new.seen.now class.new }
     {
         advance(context, class, number, self)
     }
@@ -97,9 +91,7 @@ fn advance_hits<N: Named>(
     hands: &mut Hands,
     turn: Turn,
 ) -> Result<(), Fault>
-    requires class { IsClass (setting_of N.config) class.old.class.number }
-    requires begun { HasBegunAs N.config class.old.sight turn.who turn.moment (juggling_of class.old.class.number turn.moment) }
-    requires hands { hands.old.tables ≡ tables_of N.queues }
+    requires upkeep { MayUpkeep N.config (tables_of N.queues) class.old turn hands.old }
     ensures advanced { OnOk result (IsAdvancedBy (queue_of class.old.class.number) turn hands.old hands.new class.old.class.history class.new.class.history) }
     ensures cut { OnErr result (IsAdvancedTill (queue_of class.old.class.number) turn hands.old hands.new class.old.class.history class.new.class.history) }
     ensures same { hands.new ≡ record hands.old { takings = hands.new.takings } }
@@ -126,9 +118,7 @@ pub(crate) fn upkeep_under<N: Named>(
     hands: &mut Hands,
     turn: Turn,
 ) -> Result<Moves, Fault>
-    requires class { IsClass (setting_of N.config) class.old.class.number }
-    requires begun { HasBegunAs N.config class.old.sight turn.who turn.moment (juggling_of class.old.class.number turn.moment) }
-    requires hands { hands.old.tables ≡ tables_of N.queues }
+    requires upkeep { MayUpkeep N.config (tables_of N.queues) class.old turn hands.old }
     ensures upkept { IfOk result (IsUpkept N.config class.old.class turn hands.old hands.new class.new.class.history) }
     ensures taken { Takes (queue_of class.old.class.number) hands.old hands.new }
     ensures same { hands.new ≡ record hands.old { takings = hands.new.takings } }

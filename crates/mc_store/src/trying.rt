@@ -11,10 +11,11 @@ use crate::caller::Caller;
 use crate::locked::{LockedClass, LockedStripe};
 use crate::named::Named;
 use crate::owned_class::catch_up_class;
-use crate::pairing::put_if;
+use crate::owned_stripe::catch_up_stripe;
+use crate::pairing::note_if;
 use crate::task::Task;
 use mc_item::Fault;
-use mc_pull::{Tried, attempt_none, attempt_one, attempt_two};
+use mc_pull::{Attempt, Tried, attempt_none, attempt_one, attempt_two};
 use mc_stripe::Given;
 
 // Whether a try made its command.
@@ -53,11 +54,11 @@ pub(crate) fn try_alone<N: Named>(
     let place = own.side.events();
     let tried = attempt_none(&mut own.side.state, task.command, task.turn);
     own.side.state.history();
-    put_if(
+    catch_up_stripe(&own.side.state, &mut own.side.owner, &store.board);
+    note_if(
         &store.board,
         caller,
         &own.side.state,
-        &mut own.side.owner,
         &mut own.side.seen,
         place,
         is_made(&tried),
@@ -79,8 +80,7 @@ pub(crate) fn try_on_one<N: Named>(
     requires room { HasRoomFor given class.old.class }
     ensures tried { IfOk result (IsTriedUnder own.old.stripe own.new.stripe caller.old caller.new task.entry.command.now task.entry.turn given (class.old ∷
         []) (class.new ∷ [])) }
-    ensures err { OnErr result (own.new.stripe.history ≡ own.old.stripe.history) }
-    ensures unnoted { OnErr result (caller.new ≡ caller.old) }
+    ensures err { OnErr result ((own.new.stripe.history ≡ own.old.stripe.history) × (caller.new ≡ caller.old)) }
     ensures sees { Grows own.old.sight own.new.sight }
     ensures site { KeepsSite own.old.stripe own.new.stripe }
     ensures full { IsErrOf result HistoryFull → own.new.stripe.limit ≤ length own.new.stripe.history }
@@ -88,19 +88,21 @@ pub(crate) fn try_on_one<N: Named>(
     let store = task.store;
     let place = own.side.events();
     let tried = attempt_one(
-        task.alloc,
+        Attempt {
+            alloc: task.alloc,
+            command: task.command,
+            turn: task.turn,
+            given,
+        },
         &mut own.side.state,
         &mut class.side.state,
-        task.command,
-        task.turn,
-        given,
     );
     own.side.state.history();
-    put_if(
+    catch_up_stripe(&own.side.state, &mut own.side.owner, &store.board);
+    note_if(
         &store.board,
         caller,
         &own.side.state,
-        &mut own.side.owner,
         &mut own.side.seen,
         place,
         is_made(&tried),
@@ -128,8 +130,7 @@ pub(crate) fn try_on_two<N: Named>(
     requires room { HasRoomFor given home.old.class × HasRoomFor given other.old.class }
     ensures tried { IfOk result (IsTriedUnder own.old.stripe own.new.stripe caller.old caller.new task.entry.command.now task.entry.turn given (home.old ∷
         other.old ∷ []) (home.new ∷ other.new ∷ [])) }
-    ensures err { OnErr result (own.new.stripe.history ≡ own.old.stripe.history) }
-    ensures unnoted { OnErr result (caller.new ≡ caller.old) }
+    ensures err { OnErr result ((own.new.stripe.history ≡ own.old.stripe.history) × (caller.new ≡ caller.old)) }
     ensures sees { Grows own.old.sight own.new.sight }
     ensures site { KeepsSite own.old.stripe own.new.stripe }
     ensures full { IsErrOf result HistoryFull → own.new.stripe.limit ≤ length own.new.stripe.history }
@@ -137,20 +138,22 @@ pub(crate) fn try_on_two<N: Named>(
     let store = task.store;
     let place = own.side.events();
     let tried = attempt_two(
-        task.alloc,
+        Attempt {
+            alloc: task.alloc,
+            command: task.command,
+            turn: task.turn,
+            given,
+        },
         &mut own.side.state,
         &mut home.side.state,
         &mut other.side.state,
-        task.command,
-        task.turn,
-        given,
     );
     own.side.state.history();
-    put_if(
+    catch_up_stripe(&own.side.state, &mut own.side.owner, &store.board);
+    note_if(
         &store.board,
         caller,
         &own.side.state,
-        &mut own.side.owner,
         &mut own.side.seen,
         place,
         is_made(&tried),

@@ -12,11 +12,10 @@ ghost use Rattle.mc_store.specs.{
   Earned.IsSearchInVain,
   Full.LacksPlaces,
   Serving.HasSeenShort,
-  Serving.IsServed,
   Serving.MayFailSeen,
   Sides.class_told,
 };
-ghost use Rattle.mc_store.specs.{Locked.HasBegun, Locked.HasBegunAs, Locked.HasBegunCommand, Locked.HasBegunSearch, Made.SearchesOwn};
+ghost use Rattle.mc_store.specs.{Locked.HasBegunAs, Locked.HasBegunCommand, Locked.HasBegunSearch, Walking.LeavesSearch, Walking.MayWalkWith};
 ghost use Rattle.mc_board.specs.Histories.{Grows, list_at};
 
 use crate::gates::{Holding, Trying};
@@ -42,16 +41,14 @@ fn make_room_with<N: Named>(
     owner: &mut Owner,
     seen: &mut Seen,
 ) -> Result<bool, Fault>
-    requires served { IsServed N.board.table N.config owner.old seen.old class.old }
-    requires begun { HasBegun N.config seen.old.sight task.turn.who task.turn.moment }
+    requires tokens { MayWalkWith N.board.table N.config owner.old seen.old class.old task.turn.who task.turn.moment }
     ensures room { IfOk result (λ found. (xs : List Answer) × IsRoom (rounds class.old task.entry.turn.who task.entry.turn.moment N.config) class.old.history
         xs class.new.history found) }
     ensures class { classes.GainsEvents class.old class.new }
-    ensures served { IsServed N.board.table N.config owner.new seen.new class.new }
-    ensures stripe { StripeGrows (walker_of class.old task.entry.turn.who task.entry.turn.moment) own.old.stripe own.new.stripe }
+    ensures left { LeavesSearch N.board.table N.config (walker_of class.old task.entry.turn.who task.entry.turn.moment) seen.old.sight class.old
+        own.old.stripe owner.new seen.new class.new own.new.stripe }
     ensures tried { IfOk result (λ found. found ≡ false → IsSearchInVain N.config class.old own.old.stripe task.entry.turn.who task.entry.turn.moment
         class.new.history) }
-    ensures searched { SearchesOwn task.entry.turn.who task.entry.turn.moment seen.old.sight seen.new.sight class.old.history class.new.history }
     ensures fault { IfErr result (MayFailSeen N.config seen.new.sight class.new) }
 {
     let store = task.store;

@@ -7,7 +7,9 @@ ghost use Rattle.mc_pull.specs.Attempt.{IsNoted, IsReady};
 ghost use Rattle.mc_pull_tests.specs.Met.{AreMet};
 
 use mc_item::{ClassEvent, ClassNo, Command, Config, Fault, Link, Numbers, Reply, StripeNo, Who};
-use mc_pull::{Tried, attempt_none, attempt_one, attempt_two, offer_home, offer_other, ready};
+use mc_pull::{
+    Attempt, Tried, attempt_none, attempt_one, attempt_two, offer_home, offer_other, ready,
+};
 use mc_segment::ClassState;
 use mc_stripe::{Given, StripeState, Turn};
 use mc_testing::WHO;
@@ -124,43 +126,39 @@ fn try_lent(
                 home: Some(offer_home(&pair.first, refused, turn)),
                 other: None,
             };
-            attempt_one(
+            let attempt = Attempt {
                 alloc,
-                &mut pair.stripe,
-                &mut pair.first,
                 command,
                 turn,
                 given,
-            )
+            };
+            attempt_one(attempt, &mut pair.stripe, &mut pair.first)
         }
         Lend::Other => {
             let given = Given {
                 home: None,
                 other: Some(offer_other(&pair.first)),
             };
-            attempt_one(
+            let attempt = Attempt {
                 alloc,
-                &mut pair.stripe,
-                &mut pair.first,
                 command,
                 turn,
                 given,
-            )
+            };
+            attempt_one(attempt, &mut pair.stripe, &mut pair.first)
         }
         Lend::Both => {
             let given = Given {
                 home: Some(offer_home(&pair.second, None, turn)),
                 other: Some(offer_other(&pair.first)),
             };
-            attempt_two(
+            let attempt = Attempt {
                 alloc,
-                &mut pair.stripe,
-                &mut pair.second,
-                &mut pair.first,
                 command,
                 turn,
                 given,
-            )
+            };
+            attempt_two(attempt, &mut pair.stripe, &mut pair.second, &mut pair.first)
         }
     }
 }

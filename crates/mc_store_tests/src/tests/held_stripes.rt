@@ -2,7 +2,7 @@
 //! on the others, juggle, crawl and set limits. Then a walk passes an entry just where its stripe is held, and a search that gets
 //! no other stripe takes the item of its own command. The histories are replayed as those of threads are.
 ghost use Rattle.std.specs.Prelude.{◌≡◌, length};
-ghost use Rattle.mc_store_tests.specs.Opening.{AreParts};
+ghost use Rattle.mc_store.specs.Opening.{AreParts};
 
 use super::checker::{are_all_found, replay};
 use super::class_checker::check_classes;

@@ -1,6 +1,6 @@
 //! A class's limit of chunks is set: what commands leave there, worked out by hand, and threads that set it and items at once.
 ghost use Rattle.std.specs.Prelude.{◌≡◌, length};
-ghost use Rattle.mc_store_tests.specs.Opening.{AreParts};
+ghost use Rattle.mc_store.specs.Opening.{AreParts};
 
 use super::asking::Ask::{Get, Store as Put};
 use super::asking::{Ask, answer, command_of, limit};

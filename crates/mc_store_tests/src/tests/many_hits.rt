@@ -1,7 +1,7 @@
 //! As many hits as a class's queue has room for, and more. Of 640 items of the same cost HOT may have a fifth, and WARM two
 //! fifths. So juggling leaves 128 in HOT and moves 512 to COLD, and the 256 that hits move to WARM may stay there.
 ghost use Rattle.std.specs.Prelude.{◌≡◌, length};
-ghost use Rattle.mc_store_tests.specs.Opening.{AreParts};
+ghost use Rattle.mc_store.specs.Opening.{AreParts};
 
 use super::asking::{answer, juggle};
 use super::ends::{End, check_ends};

@@ -1,7 +1,7 @@
 //! Stores for the tests: what they are opened with, by a name that the caller picks.
 ghost use Rattle.std.specs.Prelude.{◌≡◌, IfOk, length};
 ghost use Rattle.mc_item.specs.Config.{IsBounded, IsSound};
-ghost use Rattle.mc_store_tests.specs.Opening.{AreParts};
+ghost use Rattle.mc_store.specs.Opening.{AreParts};
 
 use mc_item::{Config, ConfigFault, Numbers};
 use mc_store::{Final, Named, Pass, Store, Tokens};

@@ -1,7 +1,7 @@
 //! A stripe's lock stands alone: what is answered while one stripe of four is held, of which `a` is stripe 0 and `b`
 //! stripe 1.
 ghost use Rattle.std.specs.Prelude.{◌≡◌, length};
-ghost use Rattle.mc_store_tests.specs.Opening.{AreParts};
+ghost use Rattle.mc_store.specs.Opening.{AreParts};
 
 use super::asking::Ask::{Get, Incr, Store as Put};
 use super::opening::{Parts, Shape, four_stripes, last_of, opened, parts_for};

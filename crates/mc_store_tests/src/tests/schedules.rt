@@ -2,7 +2,7 @@
 //! one never pauses, another pauses seldom and long, a third holds stripes' locks. Afterwards a plain memcached and plain classes
 //! replay the histories, as for what threads play, and these tell what the threads met.
 ghost use Rattle.std.specs.Prelude.{◌≡◌, ◌<◌, length};
-ghost use Rattle.mc_store_tests.specs.Opening.{AreParts};
+ghost use Rattle.mc_store.specs.Opening.{AreParts};
 
 use super::asking::{self, Ask, command_of};
 use super::checker::{are_all_found, replay};

@@ -1,6 +1,6 @@
 //! Threads that share a store: what each does with its pass, and the store before and afterwards.
 ghost use Rattle.std.specs.Prelude.{◌≡◌, length};
-ghost use Rattle.mc_store_tests.specs.Opening.{AreParts};
+ghost use Rattle.mc_store.specs.Opening.{AreParts};
 
 use super::opening::{Parts, Shape, compare_all, last_of, opened, parts_for, shape_of};
 use super::running::{Row, check_rows};

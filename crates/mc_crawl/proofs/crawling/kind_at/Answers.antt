@@ -15,4 +15,4 @@ returns-clause-crawled g c =
     let is : entry_of c.args.number (lists_of class.history) ≡ Some e = sym c.entry.ensures ∙ ap option_copied c.in-Some.is in
     subst (λ (k : Kind). IsCrawled q class c.look_at.new.class (g.G.Gate.answers c.args.gate.now) (g.G.Gate.answers c.look_at.new.gate) k) (sym c.kind_of.ensures.value)
     (looked q class c.look_at.new.class _ _ e c.stripe_of-stripe.result c.in_ok-judged.judged is c.stripe_of-stripe.ensures
-    c.in_ok-judged.ensures.answer c.in_ok-judged.ensures.class c.in_ok-judged.ensures.judged)
+    c.in_ok-judged.ensures.answer.answers c.in_ok-judged.ensures.answer.class c.in_ok-judged.ensures.answer.judged_is)

@@ -3,19 +3,14 @@ use Rattle.mc_driver.specs.Input.{IsConversed, OfAllBytes}
 use Rattle.mc_driver.proofs.ConversationLemmas.{conversed, same_ends}
 use Rattle.mc_driver.proofs.conversing.talk.Goals as goal
 
-pub returns-in-Ok-run_ends-clause-reader : goal.returns-in-Ok-run_ends-clause-reader
-returns-in-Ok-run_ends-clause-reader g c =
+pub returns-in-Ok-run_ends-clause-same : goal.returns-in-Ok-run_ends-clause-same
+returns-in-Ok-run_ends-clause-same g c =
     let scripts : c.push_reserved.new.self.items ≡ c.args.live ∷ [] = c.push_reserved.ensures.items ∙ ap (λ xs. xs ++ c.args.live ∷ []) c.in-Ok.ensures.items in
     let run = rw scripts at c.in-Ok-run_ends.ensures.ok in
-    let same = same_ends g.R.Read.remaining g.W.Write.contents _ _ c.args.live _ _ _ run in
-    ap (λ l. l.reader.ghost_name) (c.only.ensures c.args.live) ∙ same.0
-
-pub returns-in-Ok-run_ends-clause-writer : goal.returns-in-Ok-run_ends-clause-writer
-returns-in-Ok-run_ends-clause-writer g c =
-    let scripts : c.push_reserved.new.self.items ≡ c.args.live ∷ [] = c.push_reserved.ensures.items ∙ ap (λ xs. xs ++ c.args.live ∷ []) c.in-Ok.ensures.items in
-    let run = rw scripts at c.in-Ok-run_ends.ensures.ok in
-    let same = same_ends g.R.Read.remaining g.W.Write.contents _ _ c.args.live _ _ _ run in
-    ap (λ l. l.writer.ghost_name) (c.only.ensures c.args.live) ∙ same.1
+    let same = same_ends g.R.Read.remaining g.W.Write.contents _ _ c.args.live _ _ _ run in (
+      ap (λ l. l.reader.ghost_name) (c.only.ensures c.args.live) ∙ same.0,
+      ap (λ l. l.writer.ghost_name) (c.only.ensures c.args.live) ∙ same.1,
+    )
 
 pub returns-in-Ok-run_ends-clause-ok : goal.returns-in-Ok-run_ends-clause-ok
 returns-in-Ok-run_ends-clause-ok g c =
@@ -31,15 +26,11 @@ returns-in-Ok-run_ends-clause-ok g c =
     (g.W.Write.contents c.args.live.writer.now) (g.W.Write.contents (slice_index_or ends 0 c.args.live).writer.now) c.in-Ok-run_ends.run'.outcomes.items))
     c.as_slice.ensures all)
 
-pub returns-clause-reader : goal.returns-clause-reader
-returns-clause-reader g c =
+pub returns-clause-same : goal.returns-clause-same
+returns-clause-same g c =
     let scripts : c.push_reserved.new.self.items ≡ c.args.live ∷ [] = c.push_reserved.ensures.items ∙ ap (λ xs. xs ++ c.args.live ∷ []) c.in-Ok.ensures.items in
-    ap (λ l. l.reader.ghost_name) (c.only-in-Err.ensures c.args.live ∙ ap (λ xs. slice_index_or xs 0 c.args.live) (c.in-Err.ensures.back ∙ scripts))
-
-pub returns-clause-writer : goal.returns-clause-writer
-returns-clause-writer g c =
-    let scripts : c.push_reserved.new.self.items ≡ c.args.live ∷ [] = c.push_reserved.ensures.items ∙ ap (λ xs. xs ++ c.args.live ∷ []) c.in-Ok.ensures.items in
-    ap (λ l. l.writer.ghost_name) (c.only-in-Err.ensures c.args.live ∙ ap (λ xs. slice_index_or xs 0 c.args.live) (c.in-Err.ensures.back ∙ scripts))
+    let back = c.only-in-Err.ensures c.args.live ∙ ap (λ xs. slice_index_or xs 0 c.args.live) (c.in-Err.ensures.back ∙ scripts) in
+    (ap (λ l. l.reader.ghost_name) back, ap (λ l. l.writer.ghost_name) back)
 
 pub returns-clause-none : goal.returns-clause-none
 returns-clause-none g c = λ none.

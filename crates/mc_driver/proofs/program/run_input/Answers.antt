@@ -1,8 +1,7 @@
-use Rattle.std.proofs.Common.{false, inr, subst, arith}
+use Rattle.std.proofs.Common.{inr, arith}
 use Rattle.std.specs.List.{flat_map}
 use Rattle.mc_proto.specs.Gathered.{bytes_of_parts}
 use Rattle.mc_item.proofs.ConfigLemmas.{bounded}
-use Rattle.mc_driver.specs.Input.{IsRunOf}
 use Rattle.mc_driver.proofs.StatusLemmas.{unrun_for_number}
 use Rattle.mc_driver.proofs.program.run_input.Goals as goal
 
@@ -15,7 +14,7 @@ returns-clause-done g c = λ zero.
       printed = printed;
       ended = run.outcomes.items;
       final = run.ledger;
-      run = subst (λ moments. IsRunOf false c.args.plan.config moments input printed run.outcomes.items run.ledger) c.as_slice-upkeep.ensures c.in-Ok.ensures.ok;
+      run = c.in-Ok.ensures.ok;
       done = c.print_answered-status.ensures.done zero;
       written = c.print_answered-status.ensures.printed (λ three. omega (arith, zero, three));
     }
@@ -37,7 +36,7 @@ returns-clause-broken g c = λ one.
       printed = printed;
       ended = run.outcomes.items;
       final = run.ledger;
-      run = subst (λ moments. IsRunOf false c.args.plan.config moments input printed run.outcomes.items run.ledger) c.as_slice-upkeep.ensures c.in-Ok.ensures.ok;
+      run = c.in-Ok.ensures.ok;
       fault = c.print_answered-status.ensures.first one;
       written = c.print_answered-status.ensures.printed (λ three. omega (arith, one, three));
     })

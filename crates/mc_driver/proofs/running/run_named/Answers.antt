@@ -9,14 +9,14 @@ use Rattle.mc_driver.proofs.running.run_named.Goals as goal
 pub run_jobs-requires-clause-first : goal.run_jobs-requires-clause-first
 run_jobs-requires-clause-first g c = λ lifetimes met.
     all_start (λ job. job.calls.pass) g.N.Named.config g.N.Named.queues c.as_mut_slice.result.now c.in-Ok.passes.items g.N.Named.config.callers
-    (ap (λ js. map (λ job. job.calls.pass) js) c.as_mut_slice.ensures.value ∙ c.jobs_for-jobs.ensures.passes) c.in-Ok.ensures.passes c.requires.config.1.some_stripes
+    (ap (λ js. map (λ job. job.calls.pass) js) c.as_mut_slice.ensures.value ∙ c.jobs_for-jobs.ensures.passes) c.in-Ok.ensures.passes c.requires.fit.bounded.some_stripes
 
 pub run_jobs-requires-clause-asks : goal.run_jobs-requires-clause-asks
 run_jobs-requires-clause-asks g c = λ lifetimes met.
     jobs_may g.E.Ends.gave g.E.Ends.taken g.E.Ends.reads g.E.Ends.writes g.E.Ends.over g.E.Ends.may_ask c.limits_for-limits.result (λ job. job.work)
     c.as_mut_slice.result.now c.args.scripts.items (ap (λ js. map (λ job. job.work) js) c.as_mut_slice.ensures.value ∙ c.jobs_for-jobs.ensures.works)
     (subst (λ l. MayRunAll g.E.Ends.gave g.E.Ends.taken g.E.Ends.reads g.E.Ends.writes g.E.Ends.over g.E.Ends.may_ask l c.args.scripts.items)
-    (sym (c.limits_for-limits.ensures ∙ ap limits_of c.requires.config.0)) c.requires.asks)
+    (sym (c.limits_for-limits.ensures ∙ ap limits_of c.requires.named.1)) c.requires.asks)
 
 pub end_all-requires-clause-room : goal.end_all-requires-clause-room
 end_all-requires-clause-room g c =
@@ -38,7 +38,7 @@ returns g c =
     let all_classes : AreClasses final.board config final.classes = subst (λ t. AreClasses t config final.classes) (sym c.close-ledger.ensures.board) c.close-ledger.ensures.classes in
     let many = c.run_jobs.ensures.many ∙ ap length c.as_mut_slice.ensures.value in
     let back = written_back c.jobs_for-jobs.result.items done c.jobs_for-jobs.result.len c.jobs_for-jobs.result.ok.0 many in
-    let limits : c.limits_for-limits.result ≡ limits_of config = c.limits_for-limits.ensures ∙ ap limits_of c.requires.config.0 in
+    let limits : c.limits_for-limits.result ≡ limits_of config = c.limits_for-limits.ensures ∙ ap limits_of c.requires.named.1 in
     let begun = c.as_mut_slice.result.now in
     let passes = subst (ArePasses (tables_of g.N.Named.queues) config.callers) (sym (ap (λ js. map (λ job. job.calls.pass) js) c.as_mut_slice.ensures.value ∙ c.jobs_for-jobs.ensures.passes)) c.in-Ok.ensures.passes in
     let passes_are = c.end_all.ensures.passes ∙ ap (λ js. map (λ job. job.calls.pass) js) back in

@@ -21,7 +21,7 @@ returns-clause-juggle g c =
     let end = juggling after.history c.in_ok-sum.sum in
     let r = rounds old c.args.context.turn.who c.args.context.turn.moment c.args.context.config.now in
     let rest_is = subst (λ (x : ClassView). JugglesRounds (rounds x c.args.context.turn.who c.args.context.turn.moment c.args.context.config.now) between rest.0 end) c.in_ok-before.ensures.gains.grows.same rest.2 in
-    let temp_is = subst (λ (b : Bool). JugglesTemp r b old.history temp.0 between) (ap (λ (x : Rule). x.temp) (sym c.requires.config.rule)) temp.2 in (
+    let temp_is = subst (λ (b : Bool). JugglesTemp r b old.history temp.0 between) (ap (λ (x : Rule). x.temp) (sym c.requires.gate.served.class.rule)) temp.2 in (
       temp.0 ++ rest.0,
       rest.1 ∙ (ap (λ (ys : List Answer). ys ++ rest.0) temp.1 ∙ append_assoc _ temp.0 rest.0),
       record {
@@ -55,7 +55,7 @@ returns-in_err-sum-clause-err g c =
     let r = rounds old c.args.context.turn.who c.args.context.turn.moment c.args.context.config.now in
     let rest_is = subst (λ (x : ClassView). BreaksRounds (rounds x c.args.context.turn.who c.args.context.turn.moment c.args.context.config.now) Faults fault between rest.0 after.history)
     c.in_ok-before.ensures.gains.grows.same rest.2 in
-    let temp_is = subst (λ (b : Bool). JugglesTemp r b old.history temp.0 between) (ap (λ (x : Rule). x.temp) (sym c.requires.config.rule)) temp.2 in
+    let temp_is = subst (λ (b : Bool). JugglesTemp r b old.history temp.0 between) (ap (λ (x : Rule). x.temp) (sym c.requires.gate.served.class.rule)) temp.2 in
     let both =
     broken_after (JugglesTemp r r.class.rule.temp) (BreaksRounds r Faults fault)
     (g.G.Gate.answers c.args.gate.now) (g.G.Gate.answers c.juggle_temp.new.gate) (g.G.Gate.answers c.juggle_rest.new.gate) old.history between after.history

@@ -1,4 +1,4 @@
-use Rattle.std.proofs.Common.{List, ◌≡◌, ◌++◌, false, sym, subst, refl, inr}
+use Rattle.std.proofs.Common.{List, ◌≡◌, ◌++◌, false, subst, inr}
 use Rattle.std.proofs.lemmas.Result.{IfErr-weaker}
 use Rattle.std.specs.Prelude.{IfOk, OnErr}
 use Rattle.mc_item.specs.declared.class_event.ClassEvent.{ClassEvent}
@@ -6,9 +6,9 @@ use Rattle.mc_segment.specs.ClassState.{ClassView}
 use Rattle.mc_segment.specs.declared.surveying.Survey.{Survey}
 use Rattle.mc_item.specs.declared.fault.Fault.{Fault}
 use Rattle.mc_pull.specs.Broken.{BreaksJuggled, BreaksRound, BreaksRounds}
-use Rattle.mc_pull.specs.{Juggle.juggling, Juggle.survey_at, Juggle.history_surveyed, Juggle.IsJuggled, Juggle.IsJuggleRound, Rounds.rounds, Walker.walker_of}
+use Rattle.mc_pull.specs.{Juggle.juggling, Juggle.survey_at, Juggle.history_surveyed, Juggle.IsJuggled, Juggle.IsJuggleRound, Rounds.rounds}
 use Rattle.mc_pull.specs.declared.looking.Answer.{Answer}
-use Rattle.mc_pull.proofs.{BrokenLemmas.Since, BrokenLemmas.err_both, ChunkEventLemmas.gains_both, GrowthLemmas.kept_later}
+use Rattle.mc_pull.proofs.{BrokenLemmas.Since, BrokenLemmas.err_both, ChunkEventLemmas.gains_both, LeavesGateLemmas.leaves_both, LeavesGateLemmas.leaves_surveyed}
 use Rattle.mc_pull.proofs.juggling.juggle_rest.Goals as goal
 
 pub returns-clause-rest : goal.returns-clause-rest
@@ -25,12 +25,13 @@ returns-clause-rest g c =
     let named = subst (λ (s : Survey). P old s c.survey_class.new.class.history) (survey.survey config) made in
     subst (λ (h : List ClassEvent). P old (survey_at r old.history) h) (survey.history config) named
 
-pub returns-clause-kept : goal.returns-clause-kept
-returns-clause-kept g c = λ first begun k.
-    kept_later g.G.Gate.keeps c.args.context.turn.who c.args.context.turn.moment c.args.class.now c.survey_class.new.class c.in_ok-survey.ensures.gains.grows _ _ _ _ c.juggle_rounds.ensures.kept first begun
-    (subst (λ (h : List ClassEvent). g.G.Gate.keeps (walker_of c.args.class.now c.args.context.turn.who c.args.context.turn.moment) first begun c.args.gate.now h)
-    (sym (c.in_ok-survey.ensures.history c.args.context.config.now))
-    (c.requires.surveys first begun c.args.gate.now c.args.class.now.history _ refl refl k))
+pub returns-clause-gate : goal.returns-clause-gate
+returns-clause-gate g c =
+    let old = c.args.class.now in
+    let mid = c.survey_class.new.class in
+    let survey = c.in_ok-survey.ensures in
+    leaves_both g.G.Gate.references g.G.Gate.serves g.G.Gate.keeps c.args.context _ _ _ old mid c.juggle_rounds.new.class survey.gains.grows
+    (leaves_surveyed g.G.Gate.references g.G.Gate.serves g.G.Gate.keeps c.args.context c.args.gate.now old mid c.requires.gate survey.event) c.juggle_rounds.ensures.gate
 
 pub returns-clause-gains : goal.returns-clause-gains
 returns-clause-gains g c = gains_both false c.args.class.now c.survey_class.new.class c.juggle_rounds.new.class c.in_ok-survey.ensures.gains c.juggle_rounds.ensures.gains

@@ -49,7 +49,7 @@ returns-in_err-warm-clause-gains g c = gains_both false c.args.class.now c.pull_
 pub pull_tail-requires-2-clause-walk : goal.pull_tail-requires-2-clause-walk
 pull_tail-requires-2-clause-walk g c =
     survey_later c.args.class.now c.pull_warm.new.class c.args.context.turn.who c.args.context.turn.moment c.args.survey
-    (gains_both false c.args.class.now c.pull_tail.new.class c.pull_warm.new.class c.in_ok-hot.ensures.gains c.in_ok-warm.ensures.gains).grows c.requires.survey
+    (gains_both false c.args.class.now c.pull_tail.new.class c.pull_warm.new.class c.in_ok-hot.ensures.gains c.in_ok-warm.ensures.gains).grows c.requires.survey.there
 
 pub returns-in_err-cold-clause-gains : goal.returns-in_err-cold-clause-gains
 returns-in_err-cold-clause-gains g c =

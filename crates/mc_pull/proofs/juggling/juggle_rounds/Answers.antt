@@ -1,9 +1,9 @@
-use Rattle.std.proofs.Common.{rules, refl, ◌≡◌, ◌-◌, suc, false, ◌∙◌, sym, ap, subst, arith}
+use Rattle.std.proofs.Common.{rules, ◌≡◌, ◌-◌, suc, false, ◌∙◌, sym, ap, subst, arith}
 use Rattle.mc_segment.specs.ClassState.{ClassView}
 use Rattle.mc_pull.specs.{Broken.BreaksJuggled, Broken.BreaksRound, Juggle.IsJuggleRound, Juggle.Juggling, Juggle.juggling, Pulled.sum_of, Pulled.plus, Rounds.rounds}
 use Rattle.mc_pull.proofs.BrokenLemmas.{err_since, steps_broken}
 use Rattle.mc_pull.proofs.RoundLemmas.{rounds_more, plus_sum, juggled_all}
-use Rattle.mc_pull.proofs.{ChunkEventLemmas.gains_both, ChunkEventLemmas.gains_itself, GrowthLemmas.class_later, GrowthLemmas.survey_later, GrowthLemmas.kept_later}
+use Rattle.mc_pull.proofs.{ChunkEventLemmas.gains_both, ChunkEventLemmas.gains_itself, LeavesGateLemmas.leaves_both, LeavesGateLemmas.leaves_itself, LeavesGateLemmas.walk_later}
 use Rattle.mc_pull.proofs.juggling.juggle_rounds.Goals as goal
 
 pub rounds-preserved : goal.rounds-preserved
@@ -23,11 +23,8 @@ rounds-preserved g c =
       omega (arith, few),
       omega (arith, inv.2, made.few, some, plus_sum c.rounds.sum c.in_ok-made.made, total),
       gains_both false _ before after inv.3 made.gains,
-      survey_later before after c.args.context.turn.who c.args.context.turn.moment c.args.survey made.gains.grows inv.4,
-      class_later c.args.context.config.now before after inv.5 made.gains.grows,
-      made.serves,
-      made.holds ∙ inv.7,
-      λ h v k. kept_later g.G.Gate.keeps c.args.context.turn.who c.args.context.turn.moment c.args.class.now before inv.3.grows _ _ _ _ made.kept h v (inv.8 h v k),
+      walk_later g.G.Gate.references g.G.Gate.serves g.G.Gate.keeps c.args.context _ _ before after c.args.survey inv.4 made.gains.grows made.gate,
+      leaves_both g.G.Gate.references g.G.Gate.serves g.G.Gate.keeps c.args.context _ _ _ c.args.class.now before after inv.3.grows inv.5 made.gate,
     )
 
 pub returns-after-rounds-clause-juggled : goal.returns-after-rounds-clause-juggled
@@ -42,10 +39,7 @@ rounds-init g c = (
   omega (arith, c.requires.small),
   gains_itself false c.args.class.now,
   c.requires.survey,
-  c.requires.config,
-  c.requires.gate,
-  refl,
-  λ first begun k. k,
+  leaves_itself g.G.Gate.references g.G.Gate.serves g.G.Gate.keeps c.args.context c.args.gate.now c.args.class.now c.requires.survey.served,
 )
 
 pub returns-in_err-made-clause-gains : goal.returns-in_err-made-clause-gains

@@ -1,4 +1,4 @@
-use Rattle.std.proofs.Common.{List, ◌≡◌, ◌++◌, Bool, true, false, sym, subst, refl, inr, rules}
+use Rattle.std.proofs.Common.{List, ◌≡◌, ◌++◌, Bool, true, false, sym, subst, inr, rules}
 use Rattle.std.proofs.lemmas.Result.{IfErr-weaker}
 use Rattle.std.specs.Prelude.{IfOk, IfErr, OnErr}
 use Rattle.mc_item.specs.declared.{class_event.ClassEvent.ClassEvent, lists.Seg.TheVariants.Temp}
@@ -7,9 +7,9 @@ use Rattle.mc_segment.specs.declared.surveying.Survey.{Survey}
 use Rattle.mc_item.specs.declared.fault.Fault.{Fault}
 use Rattle.mc_pull.specs.Broken.{BreaksJuggled, BreaksWalk, BreaksTemp}
 use Rattle.mc_pull.specs.Juggle.{juggling, survey_at, history_surveyed, IsJuggled, JugglesTemp}
-use Rattle.mc_pull.specs.{Pulled.none_pulled, Rounds.rounds, Rounds.Walks, Walker.walker_of}
+use Rattle.mc_pull.specs.{Pulled.none_pulled, Rounds.rounds, Rounds.Walks}
 use Rattle.mc_pull.specs.declared.{judge.Mode.TheVariants.Plain, looking.Answer.Answer}
-use Rattle.mc_pull.proofs.{BrokenLemmas.Since, BrokenLemmas.err_both, ChunkEventLemmas.gains_both, ChunkEventLemmas.gains_itself, GrowthLemmas.kept_later}
+use Rattle.mc_pull.proofs.{BrokenLemmas.Since, BrokenLemmas.err_both, ChunkEventLemmas.gains_both, ChunkEventLemmas.gains_itself, LeavesGateLemmas.leaves_both, LeavesGateLemmas.leaves_surveyed}
 use Rattle.mc_pull.proofs.juggling.juggle_temp.Goals as goal
 
 pub returns-clause-temp : goal.returns-clause-temp
@@ -28,12 +28,13 @@ returns-clause-temp g c =
     subst (λ (b : Bool). IfOk c.temp_rounds.result (λ sum. (xs : List Answer) × (g.G.Gate.answers c.temp_rounds.new.gate ≡ g.G.Gate.answers c.args.gate.now ++ xs)
     × JugglesTemp r b old.history xs (juggling after.history sum))) (sym c.if-not-context.false) noted
 
-pub returns-clause-kept : goal.returns-clause-kept
-returns-clause-kept g c = λ first begun k.
-    kept_later g.G.Gate.keeps c.args.context.turn.who c.args.context.turn.moment c.args.class.now c.survey_class.new.class c.in_ok-survey.ensures.gains.grows _ _ _ _ c.temp_rounds.ensures.kept first begun
-    (subst (λ (h : List ClassEvent). g.G.Gate.keeps (walker_of c.args.class.now c.args.context.turn.who c.args.context.turn.moment) first begun c.args.gate.now h)
-    (sym (c.in_ok-survey.ensures.history c.args.context.config.now))
-    (c.requires.surveys first begun c.args.gate.now c.args.class.now.history _ refl refl k))
+pub returns-clause-gate : goal.returns-clause-gate
+returns-clause-gate g c =
+    let old = c.args.class.now in
+    let mid = c.survey_class.new.class in
+    let survey = c.in_ok-survey.ensures in
+    leaves_both g.G.Gate.references g.G.Gate.serves g.G.Gate.keeps c.args.context _ _ _ old mid c.temp_rounds.new.class survey.gains.grows
+    (leaves_surveyed g.G.Gate.references g.G.Gate.serves g.G.Gate.keeps c.args.context c.args.gate.now old mid c.requires.gate survey.event) c.temp_rounds.ensures.gate
 
 pub returns-then-not-context-clause-gains : goal.returns-then-not-context-clause-gains
 returns-then-not-context-clause-gains g c = gains_itself false c.args.class.now

@@ -1,7 +1,7 @@
-use Rattle.std.proofs.Common.{◌≡◌, ◌-◌, suc, ◌∙◌, subst, arith}
+use Rattle.std.proofs.Common.{◌≡◌, ◌-◌, suc, subst, arith}
 use Rattle.mc_segment.specs.ClassState.{ClassView}
 use Rattle.mc_pull.specs.{Broken.BreaksRoom, Broken.BreaksRoomRound, Rounds.rounds, Rounds.IsRoomRound}
-use Rattle.mc_pull.proofs.{RoundLemmas.rounds_more, GrowthLemmas.grows_both, GrowthLemmas.class_later, GrowthLemmas.kept_later, BrokenLemmas.steps_broken, BrokenLemmas.err_since}
+use Rattle.mc_pull.proofs.{RoundLemmas.rounds_more, LeavesGateLemmas.leaves_both, LeavesGateLemmas.served_later, GrowthLemmas.grows_both, BrokenLemmas.steps_broken, BrokenLemmas.err_since}
 use Rattle.mc_pull.proofs.rounds.make_room.Goals as goal
 
 pub rounds-preserved : goal.rounds-preserved
@@ -17,10 +17,8 @@ rounds-preserved g c =
       rounds_more made.round.0 inv.0 made.round.1 round count,
       omega (arith, few),
       grows_both _ before after inv.2 made.grows,
-      class_later c.args.context.config.now before after inv.3 made.grows,
-      made.serves,
-      made.holds ∙ inv.5,
-      λ h v k. kept_later g.G.Gate.keeps c.args.context.turn.who c.args.context.turn.moment c.args.class.now before inv.2 _ _ _ _ made.kept h v (inv.6 h v k),
+      served_later g.G.Gate.references g.G.Gate.serves g.G.Gate.keeps c.args.context _ _ before after inv.3 made.grows made.gate,
+      leaves_both g.G.Gate.references g.G.Gate.serves g.G.Gate.keeps c.args.context _ _ _ c.args.class.now before after inv.2 inv.4 made.gate,
     )
 
 pub returns-in_err-room_round-clause-err : goal.returns-in_err-room_round-clause-err

@@ -12,8 +12,8 @@ invariant_of-world c =
       sound = record {
         class = class_later before.config before.class c.juggle-moves.new.class before.sound.class c.juggle-moves.ensures.grows;
         stripe = record {
-          number_is = ap (λ site. site.stripe) c.juggle-moves.ensures.walked.grows.site.site ∙ before.sound.stripe.number_is;
-          made_with = subst (λ (config : Config). IsStripeOf config c.juggle-moves.new.self.stripe.now) c.context-context.ensures.config c.juggle-moves.ensures.serves.made_with;
+          number_is = ap (λ site. site.stripe) c.juggle-moves.ensures.walked.walked.grows.site.site ∙ before.sound.stripe.number_is;
+          made_with = subst (λ (config : Config). IsStripeOf config c.juggle-moves.new.self.stripe.now) c.context-context.ensures.config c.juggle-moves.ensures.walked.serves.made_with;
         };
       };
     }

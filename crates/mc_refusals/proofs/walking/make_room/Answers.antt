@@ -12,8 +12,8 @@ invariant_of-world c =
       sound = record {
         class = class_later before.config before.class c.make_room-found.new.class before.sound.class c.make_room-found.ensures.grows;
         stripe = record {
-          number_is = ap (λ site. site.stripe) c.make_room-found.ensures.walked.grows.site.site ∙ before.sound.stripe.number_is;
-          made_with = subst (λ (config : Config). IsStripeOf config c.make_room-found.new.self.stripe.now) c.context-context.ensures.config c.make_room-found.ensures.serves.made_with;
+          number_is = ap (λ site. site.stripe) c.make_room-found.ensures.walked.walked.grows.site.site ∙ before.sound.stripe.number_is;
+          made_with = subst (λ (config : Config). IsStripeOf config c.make_room-found.new.self.stripe.now) c.context-context.ensures.config c.make_room-found.ensures.walked.serves.made_with;
         };
       };
     }

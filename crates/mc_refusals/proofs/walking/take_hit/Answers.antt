@@ -11,13 +11,13 @@ invariant_of-world c =
     let before = c.args.world.now in
     let gate = c.advance-moved.new.gate in
     let lent = record gate { stripe = record gate.stripe { now = before.stripe } } in
-    let walked = c.advance-moved.ensures.kept lent before.class.history (walked_itself _ before.stripe before.class.history) in
+    let walked = c.advance-moved.ensures.gate.kept lent before.class.history (walked_itself _ before.stripe before.class.history) in
     record {
       sound = record {
         class = class_later before.config before.class c.advance-moved.new.class before.sound.class c.advance-moved.ensures.gains.grows;
         stripe = record {
           number_is = ap (λ site. site.stripe) walked.grows.site.site ∙ before.sound.stripe.number_is;
-          made_with = subst (λ (config : Config). IsStripeOf config c.advance-moved.new.gate.stripe.now) c.context-context.ensures.config c.advance-moved.ensures.serves.made_with;
+          made_with = subst (λ (config : Config). IsStripeOf config c.advance-moved.new.gate.stripe.now) c.context-context.ensures.config c.advance-moved.ensures.gate.serves.made_with;
         };
       };
     }

@@ -1,4 +1,4 @@
-use Rattle.std.proofs.Common.{◌≡◌, ap, sym, subst, ◌∙◌}
+use Rattle.std.proofs.Common.{rules, ◌≡◌, ap, sym, subst, ◌∙◌}
 use Rattle.std.specs.Prelude.{IsSomeAnd}
 use Rattle.mc_pull.specs.{Lone.StripeGrows, Question.HasKeyOf, Question.question_of, Walker.walker_of}
 use Rattle.mc_pull.proofs.OneStripeGateLemmas.{settle_walked}
@@ -25,31 +25,17 @@ invariant_of-stripe g c =
     let lent = c.stripe-inside-2.inside.0.0 in
     let own_is = ap (λ (l : Inside g.row.N.Denot). l.side) c.stripe-inside.view_is in
     let lent_is = ap (λ (l : Inside g.row.N.Denot). l.side) c.stripe-inside-2.view_is in
-    let begun = subst (λ (x : StripeSide). HasBegun g.N.Named.config x.sight c.args.look.now.ask.who c.args.look.now.ask.moment) (sym (own_is ∙ c.stripe.view_is)) c.requires.begun in
-    let walked = settle_walked _ _ _ _ (question_of c.args.look.now.ask) c.settle-done.ensures.site c.settle-done.ensures.agreement c.settle-done.result c.settle-done.ensures.settled c.settle-done.ensures.err in
+    let begun = subst (λ (x : StripeSide). HasBegun g.N.Named.config x.sight c.args.look.now.ask.who c.args.look.now.ask.moment) (sym (own_is ∙ c.stripe.view_is)) c.requires.look.begun in
+    let did = c.settle-done.ensures in
+    let walked = settle_walked _ _ _ _ (question_of c.args.look.now.ask) did.keeps.site did.keeps.agreement c.settle-done.result did.settled did.err in
     let grows = settled_grows _ _ _ _ (question_of c.args.look.now.ask) c.settle-done.result c.settle-done.ensures.settled c.settle-done.ensures.err in
     stripe_judged g.N.Named.board.table g.N.Named.config c.stripe.inside.side c.stripe.invariant own.state own.owner own.seen own_is
-    c.args.owner.now c.args.seen.now c.args.look.now.class.now c.requires.served c.catch_up_class.new.owner c.tell.new.self c.catch_up_class.ensures c.tell.ensures.same
+    c.args.owner.now c.args.seen.now c.args.look.now.class.now c.requires.look.served c.catch_up_class.new.owner c.tell.new.self c.catch_up_class.ensures c.tell.ensures.same
     c.tell.new.seen c.tell.ensures.whole c.tell.ensures.grows c.tell-2.new.self c.tell-2.new.seen c.tell-2.ensures.same c.tell-2.ensures.told c.tell-2.ensures.grows
     lent.state lent.owner lent.seen lent_is
-    c.settle-done.new.stripe c.settle-done.new.self.class.now c.settle-done.ensures.site grows c.history.ensures.legal c.law.ensures.lawful c.settle-done.ensures.agreement c.settle-done.ensures.sight
+    c.settle-done.new.stripe c.settle-done.new.self.class.now c.settle-done.ensures.keeps.site grows c.history.ensures.legal c.law.ensures.lawful c.settle-done.ensures.keeps.agreement c.settle-done.ensures.keeps.sight
     c.catch_up_stripe.new.owner c.catch_up_stripe.ensures c.catch_up_class-2.new.owner c.tell-3.new.self c.catch_up_class-2.ensures c.tell-3.ensures.same
     c.tell-3.new.seen c.tell-3.ensures.whole c.tell-3.ensures.grows c.tell-4.new.self c.tell-4.new.seen c.tell-4.ensures.same c.tell-4.ensures.told c.tell-4.ensures.grows _ begun walked.grows
-
-pub returns-in_err-done-clause-served : goal.returns-in_err-done-clause-served
-returns-in_err-done-clause-served g c =
-    let own = c.stripe-inside.inside.0.0 in
-    let lent = c.stripe-inside-2.inside.0.0 in
-    let own_is = ap (λ (l : Inside g.row.N.Denot). l.side) c.stripe-inside.view_is in
-    let lent_is = ap (λ (l : Inside g.row.N.Denot). l.side) c.stripe-inside-2.view_is in
-    let grows = settled_grows _ _ _ _ (question_of c.args.look.now.ask) c.settle-done.result c.settle-done.ensures.settled c.settle-done.ensures.err in
-    class_judged g.N.Named.board.table g.N.Named.config c.stripe.inside.side c.stripe.invariant own.state own.owner own.seen own_is
-    c.args.owner.now c.args.seen.now c.args.look.now.class.now c.requires.served c.catch_up_class.new.owner c.tell.new.self c.catch_up_class.ensures c.tell.ensures.same
-    c.tell.new.seen c.tell.ensures.whole c.tell.ensures.grows c.tell-2.new.self c.tell-2.new.seen c.tell-2.ensures.same c.tell-2.ensures.told c.tell-2.ensures.grows
-    lent.state lent.owner lent.seen lent_is
-    c.settle-done.new.stripe c.settle-done.new.self.class.now c.settle-done.ensures.site grows c.history.ensures.legal c.law.ensures.lawful c.settle-done.ensures.agreement c.settle-done.ensures.sight
-    c.catch_up_stripe.new.owner c.catch_up_stripe.ensures c.catch_up_class-2.new.owner c.tell-3.new.self c.catch_up_class-2.ensures c.tell-3.ensures.same
-    c.tell-3.new.seen c.tell-3.ensures.whole c.tell-3.ensures.grows c.tell-4.new.self c.tell-4.new.seen c.tell-4.ensures.same c.tell-4.ensures.told c.tell-4.ensures.grows
 
 pub invariant_of-stripe-2 : goal.invariant_of-stripe-2
 invariant_of-stripe-2 g c =
@@ -57,31 +43,17 @@ invariant_of-stripe-2 g c =
     let lent = c.stripe-inside-2.inside.0.0 in
     let own_is = ap (λ (l : Inside g.row.N.Denot). l.side) c.stripe-inside.view_is in
     let lent_is = ap (λ (l : Inside g.row.N.Denot). l.side) c.stripe-inside-2.view_is in
-    let begun = subst (λ (x : StripeSide). HasBegun g.N.Named.config x.sight c.args.look.now.ask.who c.args.look.now.ask.moment) (sym (own_is ∙ c.stripe.view_is)) c.requires.begun in
-    let walked = settle_walked _ _ _ _ (question_of c.args.look.now.ask) c.settle-done.ensures.site c.settle-done.ensures.agreement c.settle-done.result c.settle-done.ensures.settled c.settle-done.ensures.err in
+    let begun = subst (λ (x : StripeSide). HasBegun g.N.Named.config x.sight c.args.look.now.ask.who c.args.look.now.ask.moment) (sym (own_is ∙ c.stripe.view_is)) c.requires.look.begun in
+    let did = c.settle-done.ensures in
+    let walked = settle_walked _ _ _ _ (question_of c.args.look.now.ask) did.keeps.site did.keeps.agreement c.settle-done.result did.settled did.err in
     let grows = settled_grows _ _ _ _ (question_of c.args.look.now.ask) c.settle-done.result c.settle-done.ensures.settled c.settle-done.ensures.err in
     stripe_judged g.N.Named.board.table g.N.Named.config c.stripe.inside.side c.stripe.invariant own.state own.owner own.seen own_is
-    c.args.owner.now c.args.seen.now c.args.look.now.class.now c.requires.served c.catch_up_class.new.owner c.tell.new.self c.catch_up_class.ensures c.tell.ensures.same
+    c.args.owner.now c.args.seen.now c.args.look.now.class.now c.requires.look.served c.catch_up_class.new.owner c.tell.new.self c.catch_up_class.ensures c.tell.ensures.same
     c.tell.new.seen c.tell.ensures.whole c.tell.ensures.grows c.tell-2.new.self c.tell-2.new.seen c.tell-2.ensures.same c.tell-2.ensures.told c.tell-2.ensures.grows
     lent.state lent.owner lent.seen lent_is
-    c.settle-done.new.stripe c.settle-done.new.self.class.now c.settle-done.ensures.site grows c.history.ensures.legal c.law.ensures.lawful c.settle-done.ensures.agreement c.settle-done.ensures.sight
+    c.settle-done.new.stripe c.settle-done.new.self.class.now c.settle-done.ensures.keeps.site grows c.history.ensures.legal c.law.ensures.lawful c.settle-done.ensures.keeps.agreement c.settle-done.ensures.keeps.sight
     c.catch_up_stripe.new.owner c.catch_up_stripe.ensures c.catch_up_class-2.new.owner c.tell-3.new.self c.catch_up_class-2.ensures c.tell-3.ensures.same
     c.tell-3.new.seen c.tell-3.ensures.whole c.tell-3.ensures.grows c.tell-4.new.self c.tell-4.new.seen c.tell-4.ensures.same c.tell-4.ensures.told c.tell-4.ensures.grows _ begun walked.grows
-
-pub returns-clause-served : goal.returns-clause-served
-returns-clause-served g c =
-    let own = c.stripe-inside.inside.0.0 in
-    let lent = c.stripe-inside-2.inside.0.0 in
-    let own_is = ap (λ (l : Inside g.row.N.Denot). l.side) c.stripe-inside.view_is in
-    let lent_is = ap (λ (l : Inside g.row.N.Denot). l.side) c.stripe-inside-2.view_is in
-    let grows = settled_grows _ _ _ _ (question_of c.args.look.now.ask) c.settle-done.result c.settle-done.ensures.settled c.settle-done.ensures.err in
-    class_judged g.N.Named.board.table g.N.Named.config c.stripe.inside.side c.stripe.invariant own.state own.owner own.seen own_is
-    c.args.owner.now c.args.seen.now c.args.look.now.class.now c.requires.served c.catch_up_class.new.owner c.tell.new.self c.catch_up_class.ensures c.tell.ensures.same
-    c.tell.new.seen c.tell.ensures.whole c.tell.ensures.grows c.tell-2.new.self c.tell-2.new.seen c.tell-2.ensures.same c.tell-2.ensures.told c.tell-2.ensures.grows
-    lent.state lent.owner lent.seen lent_is
-    c.settle-done.new.stripe c.settle-done.new.self.class.now c.settle-done.ensures.site grows c.history.ensures.legal c.law.ensures.lawful c.settle-done.ensures.agreement c.settle-done.ensures.sight
-    c.catch_up_stripe.new.owner c.catch_up_stripe.ensures c.catch_up_class-2.new.owner c.tell-3.new.self c.catch_up_class-2.ensures c.tell-3.ensures.same
-    c.tell-3.new.seen c.tell-3.ensures.whole c.tell-3.ensures.grows c.tell-4.new.self c.tell-4.new.seen c.tell-4.ensures.same c.tell-4.ensures.told c.tell-4.ensures.grows
 
 pub returns-in_err-done-clause-fault : goal.returns-in_err-done-clause-fault
 returns-in_err-done-clause-fault g c =
@@ -92,34 +64,72 @@ returns-in_err-done-clause-fault g c =
     let grows = settled_grows _ _ _ _ (question_of c.args.look.now.ask) c.settle-done.result c.settle-done.ensures.settled c.settle-done.ensures.err in
     handed_on (MayFailSeen g.N.Named.config c.tell-4.new.seen.sight c.settle-done.new.self.class.now) c.in_err-done.field-0.0 c.from_residual.result c.from_residual.ensures.1
     (fault_judged g.N.Named.board.table g.N.Named.config c.stripe.inside.side c.stripe.invariant own.state own.owner own.seen own_is
-    c.args.owner.now c.args.seen.now c.args.look.now.class.now c.requires.served c.catch_up_class.new.owner c.tell.new.self c.catch_up_class.ensures c.tell.ensures.same
+    c.args.owner.now c.args.seen.now c.args.look.now.class.now c.requires.look.served c.catch_up_class.new.owner c.tell.new.self c.catch_up_class.ensures c.tell.ensures.same
     c.tell.new.seen c.tell.ensures.whole c.tell.ensures.grows c.tell-2.new.self c.tell-2.new.seen c.tell-2.ensures.same c.tell-2.ensures.told c.tell-2.ensures.grows
     lent.state lent.owner lent.seen lent_is
-    c.settle-done.new.stripe c.settle-done.new.self.class.now c.settle-done.ensures.site grows c.history.ensures.legal c.law.ensures.lawful c.settle-done.ensures.agreement c.settle-done.ensures.sight
+    c.settle-done.new.stripe c.settle-done.new.self.class.now c.settle-done.ensures.keeps.site grows c.history.ensures.legal c.law.ensures.lawful c.settle-done.ensures.keeps.agreement c.settle-done.ensures.keeps.sight
     c.catch_up_stripe.new.owner c.catch_up_stripe.ensures c.catch_up_class-2.new.owner c.tell-3.new.self c.catch_up_class-2.ensures c.tell-3.ensures.same
     c.tell-3.new.seen c.tell-3.ensures.whole c.tell-3.ensures.grows c.tell-4.new.self c.tell-4.new.seen c.tell-4.ensures.same c.tell-4.ensures.told c.tell-4.ensures.grows
-    c.in_err-done.field-0.0 c.in_err-done.ensures.full)
+    c.in_err-done.field-0.0 c.in_err-done.ensures.refusal.full)
 
-pub returns-clause-stripe : goal.returns-clause-stripe
-returns-clause-stripe g c =
+pub returns-in_err-done-clause-left : goal.returns-in_err-done-clause-left
+returns-in_err-done-clause-left g c =
+    let own = c.stripe-inside.inside.0.0 in
+    let lent = c.stripe-inside-2.inside.0.0 in
     let own_is = ap (λ (l : Inside g.row.N.Denot). l.side) c.stripe-inside.view_is in
     let lent_is = ap (λ (l : Inside g.row.N.Denot). l.side) c.stripe-inside-2.view_is in
+    let grows = settled_grows _ _ _ _ (question_of c.args.look.now.ask) c.settle-done.result c.settle-done.ensures.settled c.settle-done.ensures.err in
     let first : c.stripe-inside-2.inside.0.0.state ≡ c.args.stripe.now.stripe =
     ap (λ (x : StripeSide). x.stripe) (lent_is ∙ (c.tell-2.ensures.same ∙ ap (λ (x : StripeSide). record x { sight = c.tell.new.seen.sight }) own_is))
     ∙ ap (λ (x : StripeSide). x.stripe) c.stripe.view_is in
     let last : c.tell-4.new.self.stripe ≡ c.settle-done.new.stripe = ap (λ (x : StripeSide). x.stripe) c.tell-4.ensures.same in
     let w = walker_of c.args.look.now.class.now c.args.look.now.ask.who c.args.look.now.ask.moment in
-    let walked = settle_walked _ _ _ _ (question_of c.args.look.now.ask) c.settle-done.ensures.site c.settle-done.ensures.agreement c.settle-done.result c.settle-done.ensures.settled c.settle-done.ensures.err in
-    subst (λ (x : Stripe). StripeGrows w c.args.stripe.now.stripe x) (sym last) (subst (λ (x : Stripe). StripeGrows w x c.settle-done.new.stripe) first walked.grows)
+    let did = c.settle-done.ensures in
+    let walked = settle_walked _ _ _ _ (question_of c.args.look.now.ask) did.keeps.site did.keeps.agreement c.settle-done.result did.settled did.err in
+    let served =
+    class_judged g.N.Named.board.table g.N.Named.config c.stripe.inside.side c.stripe.invariant own.state own.owner own.seen own_is
+    c.args.owner.now c.args.seen.now c.args.look.now.class.now c.requires.look.served c.catch_up_class.new.owner c.tell.new.self c.catch_up_class.ensures c.tell.ensures.same
+    c.tell.new.seen c.tell.ensures.whole c.tell.ensures.grows c.tell-2.new.self c.tell-2.new.seen c.tell-2.ensures.same c.tell-2.ensures.told c.tell-2.ensures.grows
+    lent.state lent.owner lent.seen lent_is
+    c.settle-done.new.stripe c.settle-done.new.self.class.now c.settle-done.ensures.keeps.site grows c.history.ensures.legal c.law.ensures.lawful c.settle-done.ensures.keeps.agreement c.settle-done.ensures.keeps.sight
+    c.catch_up_stripe.new.owner c.catch_up_stripe.ensures c.catch_up_class-2.new.owner c.tell-3.new.self c.catch_up_class-2.ensures c.tell-3.ensures.same
+    c.tell-3.new.seen c.tell-3.ensures.whole c.tell-3.ensures.grows c.tell-4.new.self c.tell-4.new.seen c.tell-4.ensures.same c.tell-4.ensures.told c.tell-4.ensures.grows in
+    record {
+      served = served;
+      stripe = subst (λ (x : Stripe). StripeGrows w c.args.stripe.now.stripe x) (sym last) (subst (λ (x : Stripe). StripeGrows w x c.settle-done.new.stripe) first walked.grows);
+      sees = grows_trans c.args.seen.now.sight c.tell-2.new.seen.sight c.tell-4.new.seen.sight c.tell-2.ensures.grows c.tell-4.ensures.grows;
+    }
 
-pub returns-in_err-done-clause-sees : goal.returns-in_err-done-clause-sees
-returns-in_err-done-clause-sees g c = grows_trans c.args.seen.now.sight c.tell-2.new.seen.sight c.tell-4.new.seen.sight c.tell-2.ensures.grows c.tell-4.ensures.grows
+pub returns-clause-left : goal.returns-clause-left
+returns-clause-left g c =
+    let own = c.stripe-inside.inside.0.0 in
+    let lent = c.stripe-inside-2.inside.0.0 in
+    let own_is = ap (λ (l : Inside g.row.N.Denot). l.side) c.stripe-inside.view_is in
+    let lent_is = ap (λ (l : Inside g.row.N.Denot). l.side) c.stripe-inside-2.view_is in
+    let grows = settled_grows _ _ _ _ (question_of c.args.look.now.ask) c.settle-done.result c.settle-done.ensures.settled c.settle-done.ensures.err in
+    let first : c.stripe-inside-2.inside.0.0.state ≡ c.args.stripe.now.stripe =
+    ap (λ (x : StripeSide). x.stripe) (lent_is ∙ (c.tell-2.ensures.same ∙ ap (λ (x : StripeSide). record x { sight = c.tell.new.seen.sight }) own_is))
+    ∙ ap (λ (x : StripeSide). x.stripe) c.stripe.view_is in
+    let last : c.tell-4.new.self.stripe ≡ c.settle-done.new.stripe = ap (λ (x : StripeSide). x.stripe) c.tell-4.ensures.same in
+    let w = walker_of c.args.look.now.class.now c.args.look.now.ask.who c.args.look.now.ask.moment in
+    let did = c.settle-done.ensures in
+    let walked = settle_walked _ _ _ _ (question_of c.args.look.now.ask) did.keeps.site did.keeps.agreement c.settle-done.result did.settled did.err in
+    let served =
+    class_judged g.N.Named.board.table g.N.Named.config c.stripe.inside.side c.stripe.invariant own.state own.owner own.seen own_is
+    c.args.owner.now c.args.seen.now c.args.look.now.class.now c.requires.look.served c.catch_up_class.new.owner c.tell.new.self c.catch_up_class.ensures c.tell.ensures.same
+    c.tell.new.seen c.tell.ensures.whole c.tell.ensures.grows c.tell-2.new.self c.tell-2.new.seen c.tell-2.ensures.same c.tell-2.ensures.told c.tell-2.ensures.grows
+    lent.state lent.owner lent.seen lent_is
+    c.settle-done.new.stripe c.settle-done.new.self.class.now c.settle-done.ensures.keeps.site grows c.history.ensures.legal c.law.ensures.lawful c.settle-done.ensures.keeps.agreement c.settle-done.ensures.keeps.sight
+    c.catch_up_stripe.new.owner c.catch_up_stripe.ensures c.catch_up_class-2.new.owner c.tell-3.new.self c.catch_up_class-2.ensures c.tell-3.ensures.same
+    c.tell-3.new.seen c.tell-3.ensures.whole c.tell-3.ensures.grows c.tell-4.new.self c.tell-4.new.seen c.tell-4.ensures.same c.tell-4.ensures.told c.tell-4.ensures.grows in
+    record {
+      served = served;
+      stripe = subst (λ (x : Stripe). StripeGrows w c.args.stripe.now.stripe x) (sym last) (subst (λ (x : Stripe). StripeGrows w x c.settle-done.new.stripe) first walked.grows);
+      sees = grows_trans c.args.seen.now.sight c.tell-2.new.seen.sight c.tell-4.new.seen.sight c.tell-2.ensures.grows c.tell-4.ensures.grows;
+    }
 
-pub returns-clause-sees : goal.returns-clause-sees
-returns-clause-sees g c = grows_trans c.args.seen.now.sight c.tell-2.new.seen.sight c.tell-4.new.seen.sight c.tell-2.ensures.grows c.tell-4.ensures.grows
-
-pub returns-clause-known : goal.returns-clause-known
-returns-clause-known g c =
+pub returns-clause-judged : goal.returns-clause-judged
+returns-clause-judged g c =
     let own = c.stripe-inside.inside.0.0 in
     let lent = c.stripe-inside-2.inside.0.0 in
     let own_is = ap (λ (l : Inside g.row.N.Denot). l.side) c.stripe-inside.view_is in
@@ -127,8 +137,10 @@ returns-clause-known g c =
     let q = question_of c.args.look.now.ask in
     let class = c.args.look.now.class.now in
     let same : lent.state ≡ c.args.stripe.now.stripe = ap (λ (x : StripeSide). x.stripe) (lent_is ∙ c.tell-2.ensures.same) ∙ ap (λ (x : StripeSide). x.stripe) (own_is ∙ c.stripe.view_is) in
+    let known =
     subst (λ (s : Stripe). HasKeyOf (record { 0 = s.site.stripe }) g.N.Named.config class q → IsSomeAnd c.settle-done.new.self.judged (IsKnown class s q)) same (λ keyed.
     known_judged g.N.Named.board.table g.N.Named.config c.stripe.inside.side c.stripe.invariant own.state own.owner own.seen own_is
-    c.args.owner.now c.args.seen.now c.args.look.now.class.now c.requires.served c.catch_up_class.new.owner c.tell.new.self c.catch_up_class.ensures c.tell.ensures.same
+    c.args.owner.now c.args.seen.now c.args.look.now.class.now c.requires.look.served c.catch_up_class.new.owner c.tell.new.self c.catch_up_class.ensures c.tell.ensures.same
     c.tell.new.seen c.tell.ensures.whole c.tell.ensures.grows c.tell-2.new.self c.tell-2.new.seen c.tell-2.ensures.same c.tell-2.ensures.told c.tell-2.ensures.grows
-    lent.state lent.owner lent.seen lent_is q c.settle-done.new.self.judged c.in_ok-done.field-0 _ c.requires.may keyed c.in_ok-done.ensures.done.0 c.in_ok-done.ensures.done.1)
+    lent.state lent.owner lent.seen lent_is q c.settle-done.new.self.judged c.in_ok-done.field-0 _ c.requires.look.may keyed c.in_ok-done.ensures.done.done_is c.in_ok-done.ensures.done.judged_is) in
+    record { had = search rules; class = search rules; judged_is = search rules; known = known }

@@ -18,10 +18,10 @@ invariant_of-class g c =
     let begun = subst (λ (x : ClassSide). HasBegunAs config x.sight turn.who turn.moment (juggling_of x.class.number turn.moment)) (sym (c.side.view_is ∙ c.class.view_is)) c.requires.begun in
     subst (IsLockedClass table config) (sym (ap (λ (o : OwnerView). class_side o made.new.self.seen.now made.new.class) c.catch_up_class.ensures))
     (locked_gains table config old new turn.who turn.moment call (subst (IsLockedClass table config) (sym c.side.view_is) c.class.invariant)
-    made.ensures.served.kept (ap (λ (v : ClassView). v.number) made.ensures.gains.grows.same)
-    (begun_as_sees config old.sight new.sight turn.who turn.moment call made.ensures.walked.sees begun) made.ensures.walked.sees made.ensures.walked.gains
-    (of_juggling old.class.number made.ensures.walked.gains.events turn.moment
-    (none_own turn.who turn.moment c.side.inside.state made.new.class made.ensures.walked.gains made.ensures.gains)))
+    made.ensures.left.served.kept (ap (λ (v : ClassView). v.number) made.ensures.gains.grows.same)
+    (begun_as_sees config old.sight new.sight turn.who turn.moment call made.ensures.left.walked.sees begun) made.ensures.left.walked.sees made.ensures.left.walked.gains
+    (of_juggling old.class.number made.ensures.left.walked.gains.events turn.moment
+    (none_own turn.who turn.moment c.side.inside.state made.new.class made.ensures.left.walked.gains made.ensures.gains)))
 
 pub returns-clause-begun : goal.returns-clause-begun
 returns-clause-begun g c =
@@ -31,4 +31,4 @@ returns-clause-begun g c =
     let old : ClassSide = class_side c.side.inside.owner c.side.inside.seen c.side.inside.state in
     let begun = subst (λ (x : ClassSide). HasBegunAs config x.sight turn.who turn.moment (juggling_of x.class.number turn.moment)) (sym (c.side.view_is ∙ c.class.view_is)) c.requires.begun in
     subst (λ (n : ClassNo). HasBegunAs config made.new.self.seen.now.sight turn.who turn.moment (juggling_of n turn.moment)) (sym (ap (λ (v : ClassView). v.number) made.ensures.gains.grows.same))
-    (begun_as_sees config old.sight made.new.self.seen.now.sight turn.who turn.moment (juggling_of old.class.number turn.moment) made.ensures.walked.sees begun)
+    (begun_as_sees config old.sight made.new.self.seen.now.sight turn.who turn.moment (juggling_of old.class.number turn.moment) made.ensures.left.walked.sees begun)

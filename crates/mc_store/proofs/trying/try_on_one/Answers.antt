@@ -1,13 +1,13 @@
 use Rattle.std.proofs.Common.{rules, ◌∷◌, ◌∙◌, [], ap}
 use Rattle.mc_store.specs.Sides.{ClassSide}
 use Rattle.mc_store.proofs.LentClassLemmas.{class_behind}
-use Rattle.mc_store.proofs.OpenTryLemmas.{class_left, first_lent, grow_in, known_in, left_err, left_first, left_same, left_sees, left_stays, left_told}
-use Rattle.mc_store.proofs.OpenTryLemmas.{left_full, left_tried, left_unnoted, one_left, open_class, open_stripe, step_one, stripe_lacks}
+use Rattle.mc_store.proofs.OpenTryLemmas.{class_left, first_lent, grow_in, known_in, left_first, left_same, left_sees, left_stays, left_told}
+use Rattle.mc_store.proofs.OpenTryLemmas.{left_full, left_err, left_tried, one_left, open_class, open_stripe, step_one, stripe_lacks}
 use Rattle.mc_store.proofs.PlacedLemmas.{asked_unanswered}
 use Rattle.mc_store.proofs.trying.try_on_one.Goals as goal
 
-pub put_if-requires-clause-behind : goal.put_if-requires-clause-behind
-put_if-requires-clause-behind g c =
+pub catch_up_stripe-requires-clause-behind : goal.catch_up_stripe-requires-clause-behind
+catch_up_stripe-requires-clause-behind g c =
     let raw = c.own-inside.inside.0.0 in
     let raw_of = c.class-inside.inside.0.0 in
     let tr = c.attempt_one-tried in
@@ -34,10 +34,10 @@ invariant_of-own g c =
     let own = open_stripe g.N.Named.board.table g.N.Named.config raw.owner raw.seen raw.state c.own.inside.side c.args.own.now (ap (λ i. i.side) c.own-inside.view_is) c.own.invariant c.own.view_is in
     let class = open_class g.N.Named.board.table g.N.Named.config raw_of.owner raw_of.seen raw_of.state c.class.inside.side c.args.class.now (ap (λ i. i.side) c.class-inside.view_is) c.class.invariant c.class.view_is in
     let step = step_one own tr.result tr.ensures.site class tr.new.class c.requires.may tr.ensures.tried tr.ensures.err in
-    let put = c.put_if in
-    let known = known_in step own c.requires.asked c.events-place.ensures c.is_made.ensures put.ensures.grows put.ensures.of put.ensures.told put.ensures.noted put.ensures.unnoted in
+    let note = c.note_if in
+    let known = known_in step own c.requires.asked c.events-place.ensures c.is_made.ensures note.ensures.grows note.ensures.of note.ensures.told note.ensures.noted note.ensures.unnoted in
     let lent = first_lent step class in
-    let left = left_told (left_first put.new.seen.sight put.ensures.owner) lent c.catch_up_class.ensures c.hear.ensures.told c.hear.ensures.grows in
+    let left = left_told (left_first note.new.seen.sight c.catch_up_stripe.ensures) lent c.catch_up_class.ensures c.hear.ensures.told c.hear.ensures.grows in
     one_left step known lent (left_same left c.hear-2.ensures.stripe) c.history.ensures.legal
 
 pub invariant_of-class : goal.invariant_of-class
@@ -48,10 +48,10 @@ invariant_of-class g c =
     let own = open_stripe g.N.Named.board.table g.N.Named.config raw.owner raw.seen raw.state c.own.inside.side c.args.own.now (ap (λ i. i.side) c.own-inside.view_is) c.own.invariant c.own.view_is in
     let class = open_class g.N.Named.board.table g.N.Named.config raw_of.owner raw_of.seen raw_of.state c.class.inside.side c.args.class.now (ap (λ i. i.side) c.class-inside.view_is) c.class.invariant c.class.view_is in
     let step = step_one own tr.result tr.ensures.site class tr.new.class c.requires.may tr.ensures.tried tr.ensures.err in
-    let put = c.put_if in
-    let known = known_in step own c.requires.asked c.events-place.ensures c.is_made.ensures put.ensures.grows put.ensures.of put.ensures.told put.ensures.noted put.ensures.unnoted in
+    let note = c.note_if in
+    let known = known_in step own c.requires.asked c.events-place.ensures c.is_made.ensures note.ensures.grows note.ensures.of note.ensures.told note.ensures.noted note.ensures.unnoted in
     let lent = first_lent step class in
-    let left = left_told (left_first put.new.seen.sight put.ensures.owner) lent c.catch_up_class.ensures c.hear.ensures.told c.hear.ensures.grows in
+    let left = left_told (left_first note.new.seen.sight c.catch_up_stripe.ensures) lent c.catch_up_class.ensures c.hear.ensures.told c.hear.ensures.grows in
     class_left step known c.history.ensures.legal lent c.catch_up_class.ensures c.hear.ensures.class c.law.ensures.lawful left c.hear-2.ensures.told c.hear-2.ensures.grows
     c.tell_owned.ensures.class c.tell_owned.ensures.grows (c.tell_owned.ensures.begun _ _ _ known.begun)
 
@@ -63,10 +63,10 @@ returns g c =
     let own = open_stripe g.N.Named.board.table g.N.Named.config raw.owner raw.seen raw.state c.own.inside.side c.args.own.now (ap (λ i. i.side) c.own-inside.view_is) c.own.invariant c.own.view_is in
     let class = open_class g.N.Named.board.table g.N.Named.config raw_of.owner raw_of.seen raw_of.state c.class.inside.side c.args.class.now (ap (λ i. i.side) c.class-inside.view_is) c.class.invariant c.class.view_is in
     let step = step_one own tr.result tr.ensures.site class tr.new.class c.requires.may tr.ensures.tried tr.ensures.err in
-    let put = c.put_if in
-    let known = known_in step own c.requires.asked c.events-place.ensures c.is_made.ensures put.ensures.grows put.ensures.of put.ensures.told put.ensures.noted put.ensures.unnoted in
+    let note = c.note_if in
+    let known = known_in step own c.requires.asked c.events-place.ensures c.is_made.ensures note.ensures.grows note.ensures.of note.ensures.told note.ensures.noted note.ensures.unnoted in
     let lent = first_lent step class in
-    let left = left_told (left_first put.new.seen.sight put.ensures.owner) lent c.catch_up_class.ensures c.hear.ensures.told c.hear.ensures.grows in
+    let left = left_told (left_first note.new.seen.sight c.catch_up_stripe.ensures) lent c.catch_up_class.ensures c.hear.ensures.told c.hear.ensures.grows in
     let end = left_same left c.hear-2.ensures.stripe in
     record {
       tried = left_tried step known own end c.tell_owned.ensures.same (c.args.class.now ∷ []) (c.tell_owned.new.class ∷ []) (λ untouched. (
@@ -74,12 +74,11 @@ returns g c =
             ∙ ap (λ (x : ClassSide). x.class) c.hear-2.ensures.told ∙ ap (λ (x : ClassSide). x.class) c.hear.ensures.class) untouched.classes.0,
         tt,
       ));
-      err = left_err step known own end;
-      unnoted = left_unnoted step known c.tell_owned.ensures.same;
+      err = left_err step known own end c.tell_owned.ensures.same;
       sees = left_sees step known own end;
       site = search rules;
       full = λ full. left_full step known end tr.ensures.full full;
     }
 
-pub put_if-requires-clause-last : goal.put_if-requires-clause-last
-put_if-requires-clause-last g c = asked_unanswered c.args.caller.now c.args.task.turn.who c.args.task.command.now c.args.task.turn.moment c.requires.asked
+pub note_if-requires-clause-last : goal.note_if-requires-clause-last
+note_if-requires-clause-last g c = asked_unanswered c.args.caller.now c.args.task.turn.who c.args.task.command.now c.args.task.turn.moment c.requires.asked

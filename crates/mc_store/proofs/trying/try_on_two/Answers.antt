@@ -1,13 +1,13 @@
 use Rattle.std.proofs.Common.{rules, ◌∷◌, ◌∙◌, [], ap, subst, sym}
 use Rattle.mc_store.specs.{Callers.asked_for, Passes.CallerView, Passes.HasCalled, Sides.ClassSide}
 use Rattle.mc_store.proofs.LentClassLemmas.{class_behind}
-use Rattle.mc_store.proofs.OpenTryLemmas.{class_left, first_lent, grow_in, known_in, left_err, left_first, left_same, left_sees, left_stays, left_told}
-use Rattle.mc_store.proofs.OpenTryLemmas.{left_full, left_tried, left_unnoted, open_class, open_stripe, second_lent, step_two, stripe_lacks, two_left}
+use Rattle.mc_store.proofs.OpenTryLemmas.{class_left, first_lent, grow_in, known_in, left_first, left_same, left_sees, left_stays, left_told}
+use Rattle.mc_store.proofs.OpenTryLemmas.{left_full, left_err, left_tried, open_class, open_stripe, second_lent, step_two, stripe_lacks, two_left}
 use Rattle.mc_store.proofs.PlacedLemmas.{asked_unanswered}
 use Rattle.mc_store.proofs.trying.try_on_two.Goals as goal
 
-pub put_if-requires-clause-behind : goal.put_if-requires-clause-behind
-put_if-requires-clause-behind g c =
+pub catch_up_stripe-requires-clause-behind : goal.catch_up_stripe-requires-clause-behind
+catch_up_stripe-requires-clause-behind g c =
     let raw = c.own-inside.inside.0.0 in
     let raw_home = c.home-inside.inside.0.0 in
     let raw_other = c.other-inside.inside.0.0 in
@@ -56,11 +56,11 @@ invariant_of-own g c =
     let other = open_class g.N.Named.board.table g.N.Named.config raw_other.owner raw_other.seen raw_other.state c.other.inside.side c.args.other.now
     (ap (λ i. i.side) c.other-inside.view_is) c.other.invariant c.other.view_is in
     let step = step_two own tr.result tr.ensures.site home tr.new.home other tr.new.other c.requires.may tr.ensures.tried tr.ensures.err in
-    let put = c.put_if in
-    let known = known_in step own c.requires.asked c.events-place.ensures c.is_made.ensures put.ensures.grows put.ensures.of put.ensures.told put.ensures.noted put.ensures.unnoted in
+    let note = c.note_if in
+    let known = known_in step own c.requires.asked c.events-place.ensures c.is_made.ensures note.ensures.grows note.ensures.of note.ensures.told note.ensures.noted note.ensures.unnoted in
     let lent = first_lent step home in
     let beside = second_lent step other in
-    let left = left_told (left_told (left_first put.new.seen.sight put.ensures.owner) lent c.catch_up_class.ensures c.hear.ensures.told c.hear.ensures.grows)
+    let left = left_told (left_told (left_first note.new.seen.sight c.catch_up_stripe.ensures) lent c.catch_up_class.ensures c.hear.ensures.told c.hear.ensures.grows)
     beside c.catch_up_class-2.ensures c.hear-2.ensures.told c.hear-2.ensures.grows in
     two_left step known lent beside (left_same (left_same left c.hear-3.ensures.stripe) c.hear-4.ensures.stripe) c.history.ensures.legal
 
@@ -75,11 +75,11 @@ invariant_of-home g c =
     let other = open_class g.N.Named.board.table g.N.Named.config raw_other.owner raw_other.seen raw_other.state c.other.inside.side c.args.other.now
     (ap (λ i. i.side) c.other-inside.view_is) c.other.invariant c.other.view_is in
     let step = step_two own tr.result tr.ensures.site home tr.new.home other tr.new.other c.requires.may tr.ensures.tried tr.ensures.err in
-    let put = c.put_if in
-    let known = known_in step own c.requires.asked c.events-place.ensures c.is_made.ensures put.ensures.grows put.ensures.of put.ensures.told put.ensures.noted put.ensures.unnoted in
+    let note = c.note_if in
+    let known = known_in step own c.requires.asked c.events-place.ensures c.is_made.ensures note.ensures.grows note.ensures.of note.ensures.told note.ensures.noted note.ensures.unnoted in
     let lent = first_lent step home in
     let beside = second_lent step other in
-    let left = left_told (left_told (left_first put.new.seen.sight put.ensures.owner) lent c.catch_up_class.ensures c.hear.ensures.told c.hear.ensures.grows)
+    let left = left_told (left_told (left_first note.new.seen.sight c.catch_up_stripe.ensures) lent c.catch_up_class.ensures c.hear.ensures.told c.hear.ensures.grows)
     beside c.catch_up_class-2.ensures c.hear-2.ensures.told c.hear-2.ensures.grows in
     class_left step known c.history.ensures.legal lent c.catch_up_class.ensures c.hear.ensures.class c.law.ensures.lawful left c.hear-3.ensures.told c.hear-3.ensures.grows
     c.tell_owned.ensures.class c.tell_owned.ensures.grows (c.tell_owned.ensures.begun _ _ _ known.begun)
@@ -95,11 +95,11 @@ invariant_of-other g c =
     let other = open_class g.N.Named.board.table g.N.Named.config raw_other.owner raw_other.seen raw_other.state c.other.inside.side c.args.other.now
     (ap (λ i. i.side) c.other-inside.view_is) c.other.invariant c.other.view_is in
     let step = step_two own tr.result tr.ensures.site home tr.new.home other tr.new.other c.requires.may tr.ensures.tried tr.ensures.err in
-    let put = c.put_if in
-    let known = known_in step own c.requires.asked c.events-place.ensures c.is_made.ensures put.ensures.grows put.ensures.of put.ensures.told put.ensures.noted put.ensures.unnoted in
+    let note = c.note_if in
+    let known = known_in step own c.requires.asked c.events-place.ensures c.is_made.ensures note.ensures.grows note.ensures.of note.ensures.told note.ensures.noted note.ensures.unnoted in
     let lent = first_lent step home in
     let beside = second_lent step other in
-    let left = left_told (left_told (left_first put.new.seen.sight put.ensures.owner) lent c.catch_up_class.ensures c.hear.ensures.told c.hear.ensures.grows)
+    let left = left_told (left_told (left_first note.new.seen.sight c.catch_up_stripe.ensures) lent c.catch_up_class.ensures c.hear.ensures.told c.hear.ensures.grows)
     beside c.catch_up_class-2.ensures c.hear-2.ensures.told c.hear-2.ensures.grows in
     let begun = subst (λ (k : CallerView). HasCalled k c.args.task.turn.who c.args.task.turn.moment (asked_for c.args.task.command.now c.args.task.turn.moment)) (sym c.tell_owned.ensures.same) known.begun in
     class_left step known c.history.ensures.legal beside c.catch_up_class-2.ensures c.hear-2.ensures.class c.law-2.ensures.lawful (left_same left c.hear-3.ensures.stripe) c.hear-4.ensures.told c.hear-4.ensures.grows
@@ -116,11 +116,11 @@ returns g c =
     let other = open_class g.N.Named.board.table g.N.Named.config raw_other.owner raw_other.seen raw_other.state c.other.inside.side c.args.other.now
     (ap (λ i. i.side) c.other-inside.view_is) c.other.invariant c.other.view_is in
     let step = step_two own tr.result tr.ensures.site home tr.new.home other tr.new.other c.requires.may tr.ensures.tried tr.ensures.err in
-    let put = c.put_if in
-    let known = known_in step own c.requires.asked c.events-place.ensures c.is_made.ensures put.ensures.grows put.ensures.of put.ensures.told put.ensures.noted put.ensures.unnoted in
+    let note = c.note_if in
+    let known = known_in step own c.requires.asked c.events-place.ensures c.is_made.ensures note.ensures.grows note.ensures.of note.ensures.told note.ensures.noted note.ensures.unnoted in
     let lent = first_lent step home in
     let beside = second_lent step other in
-    let left = left_told (left_told (left_first put.new.seen.sight put.ensures.owner) lent c.catch_up_class.ensures c.hear.ensures.told c.hear.ensures.grows)
+    let left = left_told (left_told (left_first note.new.seen.sight c.catch_up_stripe.ensures) lent c.catch_up_class.ensures c.hear.ensures.told c.hear.ensures.grows)
     beside c.catch_up_class-2.ensures c.hear-2.ensures.told c.hear-2.ensures.grows in
     let end = left_same (left_same left c.hear-3.ensures.stripe) c.hear-4.ensures.stripe in
     record {
@@ -133,12 +133,11 @@ returns g c =
           tt,
         ),
       ));
-      err = left_err step known own end;
-      unnoted = left_unnoted step known (c.tell_owned-2.ensures.same ∙ c.tell_owned.ensures.same);
+      err = left_err step known own end (c.tell_owned-2.ensures.same ∙ c.tell_owned.ensures.same);
       sees = left_sees step known own end;
       site = search rules;
       full = λ full. left_full step known end tr.ensures.full full;
     }
 
-pub put_if-requires-clause-last : goal.put_if-requires-clause-last
-put_if-requires-clause-last g c = asked_unanswered c.args.caller.now c.args.task.turn.who c.args.task.command.now c.args.task.turn.moment c.requires.asked
+pub note_if-requires-clause-last : goal.note_if-requires-clause-last
+note_if-requires-clause-last g c = asked_unanswered c.args.caller.now c.args.task.turn.who c.args.task.command.now c.args.task.turn.moment c.requires.asked

@@ -56,10 +56,10 @@ invariant_of-own g c =
     let begun = subst (λ (x : StripeSide). HasBegun g.N.Named.config x.sight c.args.task.turn.who c.args.task.turn.moment) (sym (own_is ∙ c.own.view_is))
     (begun_sees g.N.Named.config c.args.own.now.sight c.meet.new.own.sight c.args.task.turn.who c.args.task.turn.moment c.meet.ensures.grows (command_any g.N.Named.config c.args.own.now.sight c.args.task.turn.who
     c.args.task.turn.moment c.requires.begun)) in
-    let walked = settle_walked _ _ _ _ q c.settle-done.ensures.site c.settle-done.ensures.agreement c.settle-done.result c.settle-done.ensures.settled c.settle-done.ensures.err in
+    let walked = settle_walked _ _ _ _ q c.settle-done.ensures.keeps.site c.settle-done.ensures.keeps.agreement c.settle-done.result c.settle-done.ensures.settled c.settle-done.ensures.err in
     let grows = settled_grows _ _ _ _ q c.settle-done.result c.settle-done.ensures.settled c.settle-done.ensures.err in
     stripe_paired g.N.Named.board.table g.N.Named.config c.own.inside.side c.class.inside.side c.own.invariant c.class.invariant.held own.state own.owner own.seen own_is lent.state lent.owner lent.seen lent_is
-    agree c.settle-done.new.stripe c.settle-done.new.class c.settle-done.ensures.site grows c.history-2.ensures.legal c.law-2.ensures.lawful c.settle-done.ensures.agreement c.settle-done.ensures.sight
+    agree c.settle-done.new.stripe c.settle-done.new.class c.settle-done.ensures.keeps.site grows c.history-2.ensures.legal c.law-2.ensures.lawful c.settle-done.ensures.keeps.agreement c.settle-done.ensures.keeps.sight
     c.catch_up_stripe.new.owner c.catch_up_stripe.ensures c.catch_up_class.new.owner c.catch_up_class.ensures c.hear.new.self c.learn.new.stripe c.hear.new.class c.hear-2.new.self
     c.hear.ensures.class c.hear.ensures.told c.hear.ensures.grows (c.learn.ensures.stripe ∙ c.hear-2.ensures.stripe) c.hear-2.ensures.told c.hear-2.ensures.grows _ begun walked.grows
 
@@ -75,7 +75,7 @@ invariant_of-class g c =
     let q = question c.args.task.turn.who c.args.link.number Dead c.args.task.turn.moment in
     let grows = settled_grows _ _ _ _ q c.settle-done.result c.settle-done.ensures.settled c.settle-done.ensures.err in
     let held = class_paired g.N.Named.board.table g.N.Named.config c.own.inside.side c.class.inside.side c.own.invariant c.class.invariant.held own.state own.owner own.seen own_is lent.state lent.owner lent.seen lent_is
-    agree c.settle-done.new.stripe c.settle-done.new.class c.settle-done.ensures.site grows c.history-2.ensures.legal c.law-2.ensures.lawful c.settle-done.ensures.agreement c.settle-done.ensures.sight
+    agree c.settle-done.new.stripe c.settle-done.new.class c.settle-done.ensures.keeps.site grows c.history-2.ensures.legal c.law-2.ensures.lawful c.settle-done.ensures.keeps.agreement c.settle-done.ensures.keeps.sight
     c.catch_up_stripe.new.owner c.catch_up_stripe.ensures c.catch_up_class.new.owner c.catch_up_class.ensures c.hear.new.self c.hear-2.new.stripe c.hear.new.class c.hear-2.new.self
     c.hear.ensures.class c.hear.ensures.told c.hear.ensures.grows c.hear-2.ensures.stripe c.hear-2.ensures.told c.hear-2.ensures.grows in
     let who = c.args.task.turn.who in
@@ -107,10 +107,10 @@ invariant_of-own-2 g c =
     let begun = subst (λ (x : StripeSide). HasBegun g.N.Named.config x.sight c.args.task.turn.who c.args.task.turn.moment) (sym (own_is ∙ c.own.view_is))
     (begun_sees g.N.Named.config c.args.own.now.sight c.meet.new.own.sight c.args.task.turn.who c.args.task.turn.moment c.meet.ensures.grows (command_any g.N.Named.config c.args.own.now.sight c.args.task.turn.who
     c.args.task.turn.moment c.requires.begun)) in
-    let walked = settle_walked _ _ _ _ q c.settle-done.ensures.site c.settle-done.ensures.agreement c.settle-done.result c.settle-done.ensures.settled c.settle-done.ensures.err in
+    let walked = settle_walked _ _ _ _ q c.settle-done.ensures.keeps.site c.settle-done.ensures.keeps.agreement c.settle-done.result c.settle-done.ensures.settled c.settle-done.ensures.err in
     let grows = settled_grows _ _ _ _ q c.settle-done.result c.settle-done.ensures.settled c.settle-done.ensures.err in
     stripe_paired g.N.Named.board.table g.N.Named.config c.own.inside.side c.class.inside.side c.own.invariant c.class.invariant.held own.state own.owner own.seen own_is lent.state lent.owner lent.seen lent_is
-    agree c.settle-done.new.stripe c.settle-done.new.class c.settle-done.ensures.site grows c.history-2.ensures.legal c.law-2.ensures.lawful c.settle-done.ensures.agreement c.settle-done.ensures.sight
+    agree c.settle-done.new.stripe c.settle-done.new.class c.settle-done.ensures.keeps.site grows c.history-2.ensures.legal c.law-2.ensures.lawful c.settle-done.ensures.keeps.agreement c.settle-done.ensures.keeps.sight
     c.catch_up_stripe.new.owner c.catch_up_stripe.ensures c.catch_up_class.new.owner c.catch_up_class.ensures c.hear.new.self c.learn.new.stripe c.hear.new.class c.hear-2.new.self
     c.hear.ensures.class c.hear.ensures.told c.hear.ensures.grows (c.learn.ensures.stripe ∙ c.hear-2.ensures.stripe) c.hear-2.ensures.told c.hear-2.ensures.grows _ begun walked.grows
 
@@ -126,7 +126,7 @@ invariant_of-class-2 g c =
     let q = question c.args.task.turn.who c.args.link.number Dead c.args.task.turn.moment in
     let grows = settled_grows _ _ _ _ q c.settle-done.result c.settle-done.ensures.settled c.settle-done.ensures.err in
     let held = class_paired g.N.Named.board.table g.N.Named.config c.own.inside.side c.class.inside.side c.own.invariant c.class.invariant.held own.state own.owner own.seen own_is lent.state lent.owner lent.seen lent_is
-    agree c.settle-done.new.stripe c.settle-done.new.class c.settle-done.ensures.site grows c.history-2.ensures.legal c.law-2.ensures.lawful c.settle-done.ensures.agreement c.settle-done.ensures.sight
+    agree c.settle-done.new.stripe c.settle-done.new.class c.settle-done.ensures.keeps.site grows c.history-2.ensures.legal c.law-2.ensures.lawful c.settle-done.ensures.keeps.agreement c.settle-done.ensures.keeps.sight
     c.catch_up_stripe.new.owner c.catch_up_stripe.ensures c.catch_up_class.new.owner c.catch_up_class.ensures c.hear.new.self c.hear-2.new.stripe c.hear.new.class c.hear-2.new.self
     c.hear.ensures.class c.hear.ensures.told c.hear.ensures.grows c.hear-2.ensures.stripe c.hear-2.ensures.told c.hear-2.ensures.grows in
     let who = c.args.task.turn.who in
@@ -161,10 +161,10 @@ returns-in_err-done-clause-full g c = λ is.
     let end = c.learn.new.stripe in
     subst (λ (n : ClassNo). (end.stripe.limit < length end.stripe.history + 2) ⊎ LacksPlaces g.N.Named.config end.sight n 2) (sym of)
     (short_paired g.N.Named.board.table g.N.Named.config c.own.inside.side c.class.inside.side c.own.invariant c.class.invariant.held own.state own.owner own.seen own_is lent.state lent.owner lent.seen lent_is
-    agree c.settle-done.new.stripe c.settle-done.new.class c.settle-done.ensures.site grows c.history-2.ensures.legal c.law-2.ensures.lawful c.settle-done.ensures.agreement c.settle-done.ensures.sight
+    agree c.settle-done.new.stripe c.settle-done.new.class c.settle-done.ensures.keeps.site grows c.history-2.ensures.legal c.law-2.ensures.lawful c.settle-done.ensures.keeps.agreement c.settle-done.ensures.keeps.sight
     c.catch_up_stripe.new.owner c.catch_up_stripe.ensures c.catch_up_class.new.owner c.catch_up_class.ensures c.hear.new.self c.learn.new.stripe c.hear.new.class c.hear-2.new.self
     c.hear.ensures.class c.hear.ensures.told c.hear.ensures.grows (c.learn.ensures.stripe ∙ c.hear-2.ensures.stripe) c.hear-2.ensures.told c.hear-2.ensures.grows
-    (subst (MayFail c.settle-done.new.class c.settle-done.new.stripe) same c.in_err-done.ensures.full))
+    (subst (MayFail c.settle-done.new.class c.settle-done.new.stripe) same c.in_err-done.ensures.refusal.full))
 
 pub returns-clause-lost : goal.returns-clause-lost
 returns-clause-lost g c =

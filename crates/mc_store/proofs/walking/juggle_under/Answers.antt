@@ -28,7 +28,7 @@ invariant_of-class g c =
     let begun = subst (λ (x : ClassSide). HasBegunAs config x.sight c.args.turn.who c.args.turn.moment (juggling_of x.class.number c.args.turn.moment)) (sym (c.side.view_is ∙ c.class.view_is)) c.requires.begun in
     subst (IsLockedClass table config) (sym (ap (λ (o : OwnerView). class_side o made.new.self.seen.now made.new.class) c.catch_up_class.ensures))
     (locked_gains table config old new c.args.turn.who c.args.turn.moment call (subst (IsLockedClass table config) (sym c.side.view_is) c.class.invariant)
-    made.ensures.served.kept (ap (λ (v : ClassView). v.number) made.ensures.gains.grows.same)
-    (begun_as_sees config old.sight new.sight c.args.turn.who c.args.turn.moment call made.ensures.walked.sees begun) made.ensures.walked.sees made.ensures.walked.gains
-    (of_juggling old.class.number made.ensures.walked.gains.events c.args.turn.moment
-    (none_own c.args.turn.who c.args.turn.moment c.side.inside.state made.new.class made.ensures.walked.gains made.ensures.gains)))
+    made.ensures.left.served.kept (ap (λ (v : ClassView). v.number) made.ensures.gains.grows.same)
+    (begun_as_sees config old.sight new.sight c.args.turn.who c.args.turn.moment call made.ensures.left.walked.sees begun) made.ensures.left.walked.sees made.ensures.left.walked.gains
+    (of_juggling old.class.number made.ensures.left.walked.gains.events c.args.turn.moment
+    (none_own c.args.turn.who c.args.turn.moment c.side.inside.state made.new.class made.ensures.left.walked.gains made.ensures.gains)))

@@ -1,4 +1,4 @@
-use Rattle.std.proofs.Common.{Bool, false, ◌≡◌, ℕ, List, ap, ◌∙◌, subst, sym}
+use Rattle.std.proofs.Common.{rules, Bool, false, ◌≡◌, ℕ, List, ap, ◌∙◌, subst, sym}
 use mathlib.Core.List.{IsPrefix}
 use Rattle.mc_item.specs.declared.event.Event.{Event}
 use Rattle.mc_segment.specs.ClassState.{ClassView}
@@ -38,7 +38,7 @@ returns-clause-stripe g c =
     let last : c.hear.new.self.stripe ≡ walked = ap (λ (x : StripeSide). x.stripe) c.hear.ensures.told ∙ ap (λ (x : StripeSide). x.stripe) (own_is ∙ c.own.view_is) in
     subst (λ (s : Stripe). StripeGrows (walker_of c.args.class.now.class c.args.task.turn.who c.args.task.turn.moment) c.args.own.now.stripe s) (sym last)
     (subst (λ (x : StripeSide). StripeGrows (walker_of c.args.class.now.class c.args.task.turn.who c.args.task.turn.moment) x.stripe walked) c.learn_from.ensures.same
-    (subst (λ (v : ClassView). StripeGrows (walker_of v c.args.task.turn.who c.args.task.turn.moment) c.learn_from.new.stripe.stripe walked) of c.make_room_with-found.ensures.stripe))
+    (subst (λ (v : ClassView). StripeGrows (walker_of v c.args.task.turn.who c.args.task.turn.moment) c.learn_from.new.stripe.stripe walked) of c.make_room_with-found.ensures.left.stripe))
 
 pub returns-clause-tried : goal.returns-clause-tried
 returns-clause-tried g c =
@@ -57,7 +57,7 @@ returns-clause-full g c = λ is.
     let told : list_at c.hear.new.self.sight.seen c.catch_up_class.new.owner.lock ≡ class_told new.class.history =
     ap (λ (t : Sight). list_at t.seen c.catch_up_class.new.owner.lock) (ap (λ (x : StripeSide). x.sight) c.hear.ensures.told)
     ∙ list_at_same c.learn.new.self.sight.seen c.catch_up_class.new.owner.lock (class_told new.class.history) in
-    (room_full g.N.Named.board.table g.N.Named.config new.owner new.seen new.class c.make_room_with-found.ensures.served c.hear.new.self.sight c.catch_up_class.new.owner.lock
+    (room_full g.N.Named.board.table g.N.Named.config new.owner new.seen new.class c.make_room_with-found.ensures.left.served c.hear.new.self.sight c.catch_up_class.new.owner.lock
     (ap (λ (o : OwnerView). o.lock) c.catch_up_class.ensures) told (grows_trans new.seen.sight c.learn.new.self.sight c.hear.new.self.sight c.learn.ensures.theirs c.hear.ensures.grows)
     c.make_room_with-found.result c.make_room_with-found.ensures.fault is)
 
@@ -75,17 +75,18 @@ returns-clause-seen g c =
     let kept : was.lock ≡ class_lock config was.class.number = subst (λ (x : ClassSide). x.lock ≡ class_lock config x.class.number) side c.class.invariant.held.lock_is in
     let lock : c.catch_up_class.new.owner.lock ≡ was.lock =
     ap (λ (o : OwnerView). o.lock) c.catch_up_class.ensures
-    ∙ (c.make_room_with-found.ensures.served.kept.lock_is
+    ∙ (c.make_room_with-found.ensures.left.served.kept.lock_is
     ∙ (ap (λ (v : ClassView). class_lock config v.number) grows.same ∙ (ap (λ (v : ClassView). class_lock config v.number) of ∙ sym kept))) in
     subst (λ (n : ℕ). IsPrefix (class_told was.class.history) (list_at c.hear.new.self.sight.seen n)) lock
     (subst (λ (l : List Event). IsPrefix (class_told was.class.history) l) (sym told)
     (class_behind (class_told was.class.history) c.side.inside.state new.class (ap (λ (v : ClassView). class_told v.history) (sym of)) grows))
 
-pub make_room_with-found-requires-clause-begun : goal.make_room_with-found-requires-clause-begun
-make_room_with-found-requires-clause-begun g c =
-    search_any g.N.Named.config c.side.inside.seen.sight c.args.task.turn.who c.args.task.turn.moment
+pub make_room_with-found-requires : goal.make_room_with-found-requires
+make_room_with-found-requires g c =
+    let begun = search_any g.N.Named.config c.side.inside.seen.sight c.args.task.turn.who c.args.task.turn.moment
     (subst (λ (x : ClassSide). HasBegunSearch g.N.Named.config x.sight c.args.task.turn.who c.args.task.turn.moment) (sym (c.side.view_is ∙ c.class.view_is))
-    (search_sees g.N.Named.config c.args.own.now.sight c.learn_from.new.self.sight c.args.task.turn.who c.args.task.turn.moment c.learn_from.ensures.learnt c.requires.begun))
+    (search_sees g.N.Named.config c.args.own.now.sight c.learn_from.new.self.sight c.args.task.turn.who c.args.task.turn.moment c.learn_from.ensures.learnt c.requires.begun)) in
+    record { tokens = record { served = search rules; begun = begun } }
 
 pub invariant_of-class : goal.invariant_of-class
 invariant_of-class g c =
@@ -100,14 +101,14 @@ invariant_of-class g c =
     let last : c.hear.new.class ≡ mid =
     c.hear.ensures.class
     ∙ (ap (λ (x : SeenView). class_side c.catch_up_class.new.owner x new.class) c.learn.ensures.other ∙ ap (λ (o : OwnerView). class_side o new.seen new.class) c.catch_up_class.ensures) in
-    let searched = search_sees config old.sight mid.sight c.args.task.turn.who c.args.task.turn.moment made.ensures.searched.walked.sees begun in
+    let searched = search_sees config old.sight mid.sight c.args.task.turn.who c.args.task.turn.moment made.ensures.left.searched.walked.sees begun in
     subst (IsLockedClass table config) (sym last)
     (locked_commanded table config old mid c.args.task.turn.who c.args.task.turn.moment (subst (IsLockedClass table config) (sym c.side.view_is) c.class.invariant)
-    made.ensures.served.kept (ap (λ (v : ClassView). v.number) made.ensures.class.same)
-    (record { command = searched.command; begun = searched.begun }) made.ensures.searched.walked.sees (
-      made.ensures.searched.walked.gains,
-      suited_search c.args.task.turn.who c.args.task.turn.moment searched.command searched.needs made.ensures.searched.walked.gains.events made.ensures.searched.walked.gains.each
-          made.ensures.searched.none,
+    made.ensures.left.served.kept (ap (λ (v : ClassView). v.number) made.ensures.class.same)
+    (record { command = searched.command; begun = searched.begun }) made.ensures.left.searched.walked.sees (
+      made.ensures.left.searched.walked.gains,
+      suited_search c.args.task.turn.who c.args.task.turn.moment searched.command searched.needs made.ensures.left.searched.walked.gains.events made.ensures.left.searched.walked.gains.each
+          made.ensures.left.searched.none,
     ))
 
 pub returns-clause-begun : goal.returns-clause-begun
@@ -118,5 +119,5 @@ returns-clause-begun g c =
     let seen = c.make_room_with-found.new.seen.sight in
     let told = c.learn.new.self.sight in
     search_sees g.N.Named.config c.side.inside.seen.sight c.hear.new.self.sight c.args.task.turn.who c.args.task.turn.moment
-    (grows_trans c.side.inside.seen.sight seen c.hear.new.self.sight c.make_room_with-found.ensures.searched.walked.sees (grows_trans seen told c.hear.new.self.sight c.learn.ensures.theirs c.hear.ensures.grows))
+    (grows_trans c.side.inside.seen.sight seen c.hear.new.self.sight c.make_room_with-found.ensures.left.searched.walked.sees (grows_trans seen told c.hear.new.self.sight c.learn.ensures.theirs c.hear.ensures.grows))
     begun

@@ -1,7 +1,10 @@
-use Rattle.mc_pull.specs.Walker.{walker_of}
+use Rattle.std.proofs.Common.{rules}
+use Rattle.mc_pull.specs.Walker.{walker_by}
 use Rattle.mc_pull.proofs.OneStripeGateLemmas.{walked_itself}
 use Rattle.mc_pull.proofs.lone.Lone.make_room.Goals as goal
 
 pub returns-clause-walked : goal.returns-clause-walked
 returns-clause-walked c =
-    c.make_room.ensures.kept c.args.self.now c.args.class.now.history (walked_itself (walker_of c.args.class.now c.args.context.turn.who c.args.context.turn.moment) c.args.self.now.stripe.now c.args.class.now.history)
+    let left = c.make_room.ensures.gate in
+    let w = walker_by c.args.class.now c.args.context in
+    record { holds = search rules; walked = left.kept c.args.self.now c.args.class.now.history (walked_itself w c.args.self.now.stripe.now c.args.class.now.history); serves = left.serves }

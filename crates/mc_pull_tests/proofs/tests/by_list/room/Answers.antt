@@ -10,6 +10,6 @@ invariant_of-world c =
     record {
       sound = record {
         class = class_later before.config before.class c.make_room.new.class before.sound.class c.make_room.ensures.grows;
-        stripe = subst (Serves 0 c.make_room.new.gate.stripe.now) c.context-context.ensures.config c.make_room.ensures.serves;
+        stripe = subst (Serves 0 c.make_room.new.gate.stripe.now) c.context-context.ensures.config c.make_room.ensures.gate.serves;
       };
     }

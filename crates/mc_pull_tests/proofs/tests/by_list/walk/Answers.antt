@@ -10,6 +10,6 @@ invariant_of-world-2 c =
     record {
       sound = record {
         class = class_later before.config before.class c.pull_tail.new.class before.sound.class c.pull_tail.ensures.gains.grows;
-        stripe = subst (Serves 0 c.pull_tail.new.gate.stripe.now) c.context-context.ensures.config c.pull_tail.ensures.serves;
+        stripe = subst (Serves 0 c.pull_tail.new.gate.stripe.now) c.context-context.ensures.config c.pull_tail.ensures.gate.serves;
       };
     }

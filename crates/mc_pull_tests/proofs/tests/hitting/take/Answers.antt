@@ -10,6 +10,6 @@ invariant_of-world c =
     record {
       sound = record {
         class = class_later before.config before.class c.advance.new.class before.sound.class c.advance.ensures.gains.grows;
-        stripe = subst (Serves 0 c.advance.new.gate.stripe.now) c.context-context.ensures.config c.advance.ensures.serves;
+        stripe = subst (Serves 0 c.advance.new.gate.stripe.now) c.context-context.ensures.config c.advance.ensures.gate.serves;
       };
     }

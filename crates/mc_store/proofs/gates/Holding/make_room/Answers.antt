@@ -5,14 +5,6 @@ use Rattle.mc_store.specs.{Earned.IsSearchInVain, Looked.IsOfCall}
 use Rattle.mc_store.proofs.{GateLemmas.grew_itself, GateLemmas.ok_more, VisitedStripeLemmas.looked_itself, VisitedStripeLemmas.tried_any, OwnEventLemmas.searches_none}
 use Rattle.mc_store.proofs.gates.Holding.make_room.Goals as goal
 
-pub returns-clause-stripe : goal.returns-clause-stripe
-returns-clause-stripe g c =
-    let w = walker_of c.args.class.now c.args.context.turn.who c.args.context.turn.moment in
-    let own = c.args.self.now.own.now.stripe in
-    let first = looked_itself g.N.Named.config.stripes w own c.args.self.now.others.answers.now.items c.args.class.now.history in
-    let searched = searches_none c.args.context.turn.who c.args.context.turn.moment c.args.self.now.others.seen.now.sight c.args.class.now.history in
-    (c.make_room.ensures.kept c.args.self.now c.args.class.now.history (grew_itself w own, λ of. (of, first), searched)).0
-
 pub returns-clause-room : goal.returns-clause-room
 returns-clause-room g c =
     ok_more c.make_room.result _ (λ (found : Bool). (xs : List Answer) × IsRoom (rounds c.args.class.now c.args.context.turn.who c.args.context.turn.moment c.args.context.config.now) c.args.class.now.history xs
@@ -28,18 +20,20 @@ returns-clause-tried g c =
     let after = c.make_room.new.class.history in
     let first = looked_itself config.stripes w own xs c.args.class.now.history in
     let searched = searches_none c.args.context.turn.who c.args.context.turn.moment c.args.self.now.others.seen.now.sight c.args.class.now.history in
-    let kept = c.make_room.ensures.kept c.args.self.now c.args.class.now.history (grew_itself w own, λ of. (of, first), searched) in
+    let kept = c.make_room.ensures.gate.kept c.args.self.now c.args.class.now.history (grew_itself w own, λ of. (of, first), searched) in
     ok_more c.make_room.result _ (λ (found : Bool). found ≡ false → IsOfCall w c.args.self.now.others.who c.args.self.now.others.moment → IsSearchInVain config c.args.class.now own c.args.context.turn.who
     c.args.context.turn.moment after)
     (λ found made vain of.
     tried_any config c.args.context.config.now c.args.class.now c.args.context.turn.who c.args.context.turn.moment own xs c.make_room.new.gate.others.answers.now.items made.0 after found
-    c.requires.names c.a_search_in_vain_has_tried.ensures (kept.1 of).1 made.1 made.2 vain)
+    c.requires.gate.names c.a_search_in_vain_has_tried.ensures (kept.1 of).1 made.1 made.2 vain)
     c.make_room.ensures.room
 
-pub returns-clause-searched : goal.returns-clause-searched
-returns-clause-searched g c =
+pub returns-clause-left : goal.returns-clause-left
+returns-clause-left g c =
+    let left = c.make_room.ensures.gate in
     let w = walker_of c.args.class.now c.args.context.turn.who c.args.context.turn.moment in
     let own = c.args.self.now.own.now.stripe in
     let first = looked_itself g.N.Named.config.stripes w own c.args.self.now.others.answers.now.items c.args.class.now.history in
     let searched = searches_none c.args.context.turn.who c.args.context.turn.moment c.args.self.now.others.seen.now.sight c.args.class.now.history in
-    (c.make_room.ensures.kept c.args.self.now c.args.class.now.history (grew_itself w own, λ of. (of, first), searched)).2
+    let kept = left.kept c.args.self.now c.args.class.now.history (grew_itself w own, λ of. (of, first), searched) in
+    record { served = left.serves.1; stripe = kept.0; searched = kept.2 }

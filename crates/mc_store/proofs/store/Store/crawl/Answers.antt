@@ -45,10 +45,13 @@ returns-in_err-crawl_link-clause-grows g c = later_trans c.args.pass.now.sight c
 pub returns-in_err-crawl_link-clause-cut : goal.returns-in_err-crawl_link-clause-cut
 returns-in_err-crawl_link-clause-cut g c = on_err_always c.from_residual-in_err-crawl_link.result (inr (ap (λ (p : PassView). p.calls) c.crawl_link.ensures.same ∙ c.loop-i.invariant.8))
 
-pub crawl_link-requires-clause-called : goal.crawl_link-requires-clause-called
-crawl_link-requires-clause-called g c =
+pub crawl_link-requires-clause-may : goal.crawl_link-requires-clause-may
+crawl_link-requires-clause-may g c =
     let i = c.loop-i.invariant in
-    called_now c.args.pass.now c.loop-i.pass (crawling_of c.args.class c.args.moment) c.in_ok-who.who c.args.moment i.5 i.8 i.7 c.in_ok-who.ensures.turns refl
+    record {
+      of = c.requires.class;
+      called = called_now c.args.pass.now c.loop-i.pass (crawling_of c.args.class c.args.moment) c.in_ok-who.who c.args.moment i.5 i.8 i.7 c.in_ok-who.ensures.turns refl;
+    }
 
 pub returns-clause-calls : goal.returns-clause-calls
 returns-clause-calls g c = c.loop-i.invariant.8
@@ -59,12 +62,13 @@ loop-i-preserved g c =
     let i = c.loop-i.invariant in
     let pass = c.args.pass.now in
     let new = c.crawl_link.new.pass in (
-      c.in_ok-crawl_link.ensures.seen ∙ ap (λ (n : ℕ). n + 1) i.0,
+      c.in_ok-crawl_link.ensures.counted.seen ∙ ap (λ (n : ℕ). n + 1) i.0,
       c.crawl_link.ensures.balanced i.1,
-      shows_both config c.args.class pass.sight c.loop-i.pass.sight new.sight c.in_ok-who.who c.args.moment 0 c.loop-i.histogram.reclaimed c.crawl_link.new.histogram.reclaimed i.2 c.in_ok-crawl_link.ensures.reclaims,
+      shows_both config c.args.class pass.sight c.loop-i.pass.sight new.sight c.in_ok-who.who c.args.moment 0 c.loop-i.histogram.reclaimed c.crawl_link.new.histogram.reclaimed
+          i.2 c.in_ok-crawl_link.ensures.counted.reclaims,
       so_far_more config c.args.class pass.sight c.loop-i.pass.sight new.sight c.in_ok-who.who c.args.moment c.in_ok-links.links.items
           (take c.loop-i.i c.in_ok-links.links.items) (take (c.loop-i.i + 1) c.in_ok-links.links.items)
-          c.index.result.now c.loop-i.histogram c.crawl_link.new.histogram i.3 c.crawl_link.ensures.grows.seen c.in_ok-crawl_link.ensures.counted
+          c.index.result.now c.loop-i.histogram c.crawl_link.new.histogram i.3 c.crawl_link.ensures.grows.seen c.in_ok-crawl_link.ensures.counted.counted
           (ap (λ (l : Link). take c.loop-i.i c.in_ok-links.links.items ++ l ∷ []) c.index.ensures
           ∙ sym (take_more c.in_ok-links.links.items c.loop-i.i c.index.result.now (omega (arith, c.loop-i-test.true, c.len-i-end.ensures)))),
       later_trans pass.sight c.loop-i.pass.sight new.sight i.4 c.crawl_link.ensures.grows,

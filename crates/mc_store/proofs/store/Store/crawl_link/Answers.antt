@@ -2,13 +2,12 @@ use Rattle.std.proofs.Common.{length, ◌≡◌, ap, ◌∙◌, subst, sym}
 use Rattle.std.specs.Prelude.{OnOk}
 use Rattle.mc_board.specs.Histories.{Grows, list_at}
 use Rattle.mc_board.specs.declared.rule.Sight.{Sight}
-use Rattle.mc_crawl.specs.Crawl.{Reclaims}
 use Rattle.mc_segment.specs.ClassState.{ClassView}
 use Rattle.mc_pull.specs.Growth as classes
 use Rattle.mc_item.specs.declared.item.ClassNo.{ClassNo}
-use Rattle.mc_store.specs.{Callers.crawling_of, Crawls.CountsLink, Crawls.IsLinkCounted, Crawls.ShowsReclaims, Finals.IsBehindAt, Locked.HasBegunAs}
-use Rattle.mc_store.specs.{Locked.IsHeldClass, Locked.class_lock, Passes.PassView, Passes.HasCalled, Passes.caller_of, Sides.ClassSide, Sides.class_told}
-use Rattle.mc_store.proofs.{CrawledLemmas.link_counted, CrawledLemmas.on_ok_more, CrawledLemmas.shows_one, GrownClassLemmas.class_grew, GrownClassLemmas.fails_full}
+use Rattle.mc_store.specs.{Callers.crawling_of, Crawls.CountsOne, Crawls.HasCountedLink, Finals.IsBehindAt, Locked.HasBegunAs}
+use Rattle.mc_store.specs.{Locked.IsHeldClass, Passes.PassView, Passes.HasCalled, Passes.caller_of, Sides.ClassSide, Sides.class_told}
+use Rattle.mc_store.proofs.{CrawledLemmas.link_seen, CrawledLemmas.on_ok_more, GrownClassLemmas.class_grew, GrownClassLemmas.fails_full}
 use Rattle.mc_store.proofs.{GrownClassLemmas.seen_sound}
 use Rattle.mc_board.specs.Views.{SeenView}
 use Rattle.mc_evidence.specs.Seen.{stripes_seen}
@@ -16,33 +15,6 @@ use Rattle.mc_hits.specs.Rule.{AreBefore}
 use Rattle.mc_store.specs.{Callers.turns_of, Passes.ArePlaced, Passes.CallerView}
 use Rattle.mc_store.proofs.PlacedLemmas.{placed_sees}
 use Rattle.mc_store.proofs.store.Store.crawl_link.Goals as goal
-
-pub returns-clause-reclaims : goal.returns-clause-reclaims
-returns-clause-reclaims g c =
-    let config = g.N.Named.config in
-    let table = g.N.Named.board.table in
-    let old = c.compare.new.self in
-    let same : old ≡ c.own.inside.side = c.compare.ensures.same.0 in
-    let old_kept : IsHeldClass table config old = subst (IsHeldClass table config) (sym same) c.own.invariant.held in
-    let new = c.crawl_under-done.new.class in
-    let new_kept : IsHeldClass table config new = subst (IsHeldClass table config) c.own-2.view_is c.own-2.invariant.held in
-    let cls : c.tell_class.new.class.class ≡ old.class = ap (λ (x : ClassSide). x.class) c.tell_class.ensures.class in
-    let grows = subst (λ (v : ClassView). classes.GainsEvents v new.class) cls c.crawl_under-done.ensures.class in
-    let number : old.class.number ≡ c.args.class = ap (λ (x : ClassSide). x.class.number) (same ∙ (c.own.view_is ∙ c.deref_mut-own.ensures.value)) ∙ c.lock_class-guard.ensures in
-    let sight : c.pass.inside.seen.sight ≡ c.args.pass.now.sight = ap (λ (v : PassView). v.sight) c.pass.view_is in
-    let behind : IsBehindAt c.args.pass.now.sight old.lock (class_told old.class.history) =
-    subst (λ (t : Sight). IsBehindAt t old.lock (class_told old.class.history)) sight
-    (subst (λ (x : ClassSide). IsBehindAt c.pass.inside.seen.sight x.lock (class_told x.class.history)) (sym same) c.compare.ensures.behind) in
-    let told : list_at c.share.new.seen.sight.seen new.lock ≡ class_told new.class.history =
-    subst (λ (x : ClassSide). list_at c.share.new.seen.sight.seen x.lock ≡ class_told x.class.history) c.own-2.view_is c.share.ensures.told in
-    let all : Grows new.sight c.share.new.seen.sight = subst (λ (x : ClassSide). Grows x.sight c.share.new.seen.sight) c.own-2.view_is c.share.ensures.all in
-    let grew = class_grew table config c.args.class c.args.pass.now.sight c.share.new.seen.sight old new old_kept new_kept number grows behind told all in
-    let first = c.args.histogram.now.reclaimed in
-    let last = c.crawl_under-done.new.histogram.reclaimed in
-    on_ok_more c.crawl_under-done.result (Reclaims c.args.turn.who c.args.turn.moment old.class.history new.class.history first last)
-    (ShowsReclaims config c.args.class c.args.pass.now.sight c.share.new.seen.sight c.args.turn.who c.args.turn.moment first last)
-    (shows_one config c.args.class c.args.pass.now.sight c.share.new.seen.sight c.args.turn.who c.args.turn.moment first last old.class.history new.class.history grew.seen grew.now)
-    (subst (λ (v : ClassView). OnOk c.crawl_under-done.result (Reclaims c.args.turn.who c.args.turn.moment v.history new.class.history first last)) cls c.crawl_under-done.ensures.reclaims)
 
 pub returns-clause-full : goal.returns-clause-full
 returns-clause-full g c = λ is.
@@ -55,7 +27,7 @@ returns-clause-full g c = λ is.
     let new_kept : IsHeldClass table config new = subst (IsHeldClass table config) c.own-2.view_is c.own-2.invariant.held in
     let cls : c.tell_class.new.class.class ≡ old.class = ap (λ (x : ClassSide). x.class) c.tell_class.ensures.class in
     let grows = subst (λ (v : ClassView). classes.GainsEvents v new.class) cls c.crawl_under-done.ensures.class in
-    let number : old.class.number ≡ c.args.class = ap (λ (x : ClassSide). x.class.number) (same ∙ (c.own.view_is ∙ c.deref_mut-own.ensures.value)) ∙ c.lock_class-guard.ensures in
+    let number : old.class.number ≡ c.args.crawling.class = ap (λ (x : ClassSide). x.class.number) (same ∙ (c.own.view_is ∙ c.deref_mut-own.ensures.value)) ∙ c.lock_class-guard.ensures in
     let sight : c.pass.inside.seen.sight ≡ c.args.pass.now.sight = ap (λ (v : PassView). v.sight) c.pass.view_is in
     let behind : IsBehindAt c.args.pass.now.sight old.lock (class_told old.class.history) =
     subst (λ (t : Sight). IsBehindAt t old.lock (class_told old.class.history)) sight
@@ -63,17 +35,19 @@ returns-clause-full g c = λ is.
     let told : list_at c.share.new.seen.sight.seen new.lock ≡ class_told new.class.history =
     subst (λ (x : ClassSide). list_at c.share.new.seen.sight.seen x.lock ≡ class_told x.class.history) c.own-2.view_is c.share.ensures.told in
     let all : Grows new.sight c.share.new.seen.sight = subst (λ (x : ClassSide). Grows x.sight c.share.new.seen.sight) c.own-2.view_is c.share.ensures.all in
-    fails_full table config c.args.class c.args.pass.now.sight c.share.new.seen.sight old new old_kept new_kept number grows behind told all
+    fails_full table config c.args.crawling.class c.args.pass.now.sight c.share.new.seen.sight old new old_kept new_kept number grows behind told all
     c.crawl_under-done.result c.crawl_under-done.ensures.fault is
 
 pub crawl_under-done-requires-clause-begun : goal.crawl_under-done-requires-clause-begun
 crawl_under-done-requires-clause-begun g c =
-    let call = crawling_of c.args.class c.args.turn.moment in
+    let call = crawling_of c.args.crawling.class c.args.crawling.turn.moment in
     let same : c.compare.new.self ≡ c.own.inside.side = c.compare.ensures.same.0 in
-    let number : c.tell_class.new.class.class.number ≡ c.args.class =
+    let number : c.tell_class.new.class.class.number ≡ c.args.crawling.class =
     ap (λ (x : ClassSide). x.class.number) c.tell_class.ensures.class ∙ (ap (λ (x : ClassSide). x.class.number) (same ∙ (c.own.view_is ∙ c.deref_mut-own.ensures.value)) ∙ c.lock_class-guard.ensures) in
-    let begun = c.tell_class.ensures.begun c.args.turn.who c.args.turn.moment call (subst (λ (p : PassView). HasCalled (caller_of p) c.args.turn.who c.args.turn.moment call) (sym c.pass.view_is) c.requires.called) in
-    subst (λ (n : ClassNo). HasBegunAs g.N.Named.config c.tell_class.new.class.sight c.args.turn.who c.args.turn.moment (crawling_of n c.args.turn.moment)) (sym number) begun
+    let turn = c.args.crawling.turn in
+    let called = subst (λ (p : PassView). HasCalled (caller_of p) turn.who turn.moment call) (sym c.pass.view_is) c.requires.may.called in
+    let begun = c.tell_class.ensures.begun turn.who turn.moment call called in
+    subst (λ (n : ClassNo). HasBegunAs g.N.Named.config c.tell_class.new.class.sight c.args.crawling.turn.who c.args.crawling.turn.moment (crawling_of n c.args.crawling.turn.moment)) (sym number) begun
 
 pub returns-clause-sound : goal.returns-clause-sound
 returns-clause-sound g c =
@@ -85,11 +59,11 @@ returns-clause-sound g c =
     let new_kept : IsHeldClass table config new = subst (IsHeldClass table config) c.own-2.view_is c.own-2.invariant.held in
     let cls : c.tell_class.new.class.class ≡ old.class = ap (λ (x : ClassSide). x.class) c.tell_class.ensures.class in
     let grows = subst (λ (v : ClassView). classes.GainsEvents v new.class) cls c.crawl_under-done.ensures.class in
-    let number : old.class.number ≡ c.args.class = ap (λ (x : ClassSide). x.class.number) (same ∙ (c.own.view_is ∙ c.deref_mut-own.ensures.value)) ∙ c.lock_class-guard.ensures in
+    let number : old.class.number ≡ c.args.crawling.class = ap (λ (x : ClassSide). x.class.number) (same ∙ (c.own.view_is ∙ c.deref_mut-own.ensures.value)) ∙ c.lock_class-guard.ensures in
     let told : list_at c.share.new.seen.sight.seen new.lock ≡ class_told new.class.history =
     subst (λ (x : ClassSide). list_at c.share.new.seen.sight.seen x.lock ≡ class_told x.class.history) c.own-2.view_is c.share.ensures.told in
     let all : Grows new.sight c.share.new.seen.sight = subst (λ (x : ClassSide). Grows x.sight c.share.new.seen.sight) c.own-2.view_is c.share.ensures.all in
-    seen_sound table config c.args.class c.share.new.seen.sight new new_kept (ap (λ (v : ClassView). v.number) grows.same ∙ number) told all
+    seen_sound table config c.args.crawling.class c.share.new.seen.sight new new_kept (ap (λ (v : ClassView). v.number) grows.same ∙ number) told all
 
 pub returns-clause-counted : goal.returns-clause-counted
 returns-clause-counted g c =
@@ -102,7 +76,7 @@ returns-clause-counted g c =
     let new_kept : IsHeldClass table config new = subst (IsHeldClass table config) c.own-2.view_is c.own-2.invariant.held in
     let cls : c.tell_class.new.class.class ≡ old.class = ap (λ (x : ClassSide). x.class) c.tell_class.ensures.class in
     let grows = subst (λ (v : ClassView). classes.GainsEvents v new.class) cls c.crawl_under-done.ensures.class in
-    let number : old.class.number ≡ c.args.class = ap (λ (x : ClassSide). x.class.number) (same ∙ (c.own.view_is ∙ c.deref_mut-own.ensures.value)) ∙ c.lock_class-guard.ensures in
+    let number : old.class.number ≡ c.args.crawling.class = ap (λ (x : ClassSide). x.class.number) (same ∙ (c.own.view_is ∙ c.deref_mut-own.ensures.value)) ∙ c.lock_class-guard.ensures in
     let sight : c.pass.inside.seen.sight ≡ c.args.pass.now.sight = ap (λ (v : PassView). v.sight) c.pass.view_is in
     let behind : IsBehindAt c.args.pass.now.sight old.lock (class_told old.class.history) =
     subst (λ (t : Sight). IsBehindAt t old.lock (class_told old.class.history)) sight
@@ -110,14 +84,13 @@ returns-clause-counted g c =
     let told : list_at c.share.new.seen.sight.seen new.lock ≡ class_told new.class.history =
     subst (λ (x : ClassSide). list_at c.share.new.seen.sight.seen x.lock ≡ class_told x.class.history) c.own-2.view_is c.share.ensures.told in
     let all : Grows new.sight c.share.new.seen.sight = subst (λ (x : ClassSide). Grows x.sight c.share.new.seen.sight) c.own-2.view_is c.share.ensures.all in
-    let grew = class_grew table config c.args.class c.args.pass.now.sight c.share.new.seen.sight old new old_kept new_kept number grows behind told all in
+    let grew = class_grew table config c.args.crawling.class c.args.pass.now.sight c.share.new.seen.sight old new old_kept new_kept number grows behind told all in
     let first = c.args.histogram.now in
     let last = c.crawl_under-done.new.histogram in
-    on_ok_more c.crawl_under-done.result (CountsLink config old.class new.class c.args.turn.who c.args.turn.moment c.args.link first last)
-    (IsLinkCounted config c.args.class (list_at c.args.pass.now.sight.seen (class_lock config c.args.class))
-    (list_at c.share.new.seen.sight.seen (class_lock config c.args.class)) c.args.turn.who c.args.turn.moment c.args.link first last)
-    (link_counted config c.args.class c.args.pass.now.sight c.share.new.seen.sight c.args.turn.who c.args.turn.moment c.args.link first last old.class new.class grew)
-    (subst (λ (v : ClassView). OnOk c.crawl_under-done.result (CountsLink config v new.class c.args.turn.who c.args.turn.moment c.args.link first last)) cls c.crawl_under-done.ensures.counted)
+    let P : ClassView → Type 0 = λ v. CountsOne config v new.class c.args.crawling.turn c.args.link first last in
+    on_ok_more c.crawl_under-done.result (P old.class) (HasCountedLink config c.args.crawling.class c.args.pass.now.sight c.share.new.seen.sight c.args.crawling.turn c.args.link first last)
+    (link_seen config c.args.crawling.class c.args.pass.now.sight c.share.new.seen.sight c.args.crawling.turn c.args.link first last old.class new.class grew)
+    (subst (λ (v : ClassView). OnOk c.crawl_under-done.result (P v)) cls c.crawl_under-done.ensures.counted)
 
 pub invariant_of-pass : goal.invariant_of-pass
 invariant_of-pass g c =

@@ -87,9 +87,11 @@ upkeep_under-moves-requires g c =
     ∙ (ap (λ (x : ClassSide). x.class.number) (same ∙ (c.own.view_is ∙ (c.in_ok-who.ensures.class ∙ c.deref_mut-own.ensures.value))) ∙ c.lock_class-guard.ensures) in
     let begun = c.tell_class.ensures.begun c.in_ok-who.who c.args.moment call (subst (λ (p : PassView). HasCalled (caller_of p) c.in_ok-who.who c.args.moment call) (sym c.pass.view_is) called) in
     record {
-      class = subst (IsClass (setting_of config)) (sym number) c.requires.class;
-      begun = subst (λ (n : ClassNo). HasBegunAs config c.tell_class.new.class.sight c.in_ok-who.who c.args.moment (juggling_of n c.args.moment)) (sym number) begun;
-      hands = c.pass.invariant.2;
+      upkeep = record {
+        of = subst (IsClass (setting_of config)) (sym number) c.requires.class;
+        begun = subst (λ (n : ClassNo). HasBegunAs config c.tell_class.new.class.sight c.in_ok-who.who c.args.moment (juggling_of n c.args.moment)) (sym number) begun;
+        tables_are = c.pass.invariant.2;
+      };
     }
 
 pub returns-clause-taken : goal.returns-clause-taken

@@ -13,7 +13,7 @@ open_stripe-stripe-requires-clause-owner g c =
     let long : c.into_iter-owner-iterator.result.rest.len ≡ length owners.items = gives.1 ∙ owners.ok.0 in
     let turn = YieldsList-turn (YieldsList-from_vec owners.items gives.0 long) c.loop-owner.yielded c.loop-owner.owner-iterator c.loop-owner.yielded_by
     c.next.result c.next.new.self c.in-Some.owner c.in-Some.is c.next.ensures.steps in
-    let own = owner_at g.N.Named.board.table owners.items (histories_for g.N.Named.config) c.next_place-place.result (length c.loop-owner.yielded) c.in-Some.owner c.requires.owners turn place in
+    let own = owner_at g.N.Named.board.table owners.items (histories_for g.N.Named.config) c.next_place-place.result (length c.loop-owner.yielded) c.in-Some.owner c.requires.fit.owned turn place in
     own.1
 
 pub open_class-class-requires-clause-owner : goal.open_class-class-requires-clause-owner
@@ -24,7 +24,7 @@ open_class-class-requires-clause-owner g c =
     let long : c.into_iter-owner-iterator.result.rest.len ≡ length owners.items = gives.1 ∙ owners.ok.0 in
     let turn = YieldsList-turn (YieldsList-from_vec owners.items gives.0 long) c.loop-owner.yielded c.loop-owner.owner-iterator c.loop-owner.yielded_by
     c.next.result c.next.new.self c.in-Some.owner c.in-Some.is c.next.ensures.steps in
-    let own = owner_at g.N.Named.board.table owners.items (histories_for g.N.Named.config) c.next_place-place.result (length c.loop-owner.yielded) c.in-Some.owner c.requires.owners turn place in
+    let own = owner_at g.N.Named.board.table owners.items (histories_for g.N.Named.config) c.next_place-place.result (length c.loop-owner.yielded) c.in-Some.owner c.requires.fit.owned turn place in
     own.1
 
 pub open_pass-requires-clause-owner : goal.open_pass-requires-clause-owner
@@ -35,7 +35,7 @@ open_pass-requires-clause-owner g c =
     let long : c.into_iter-owner-iterator.result.rest.len ≡ length owners.items = gives.1 ∙ owners.ok.0 in
     let turn = YieldsList-turn (YieldsList-from_vec owners.items gives.0 long) c.loop-owner.yielded c.loop-owner.owner-iterator c.loop-owner.yielded_by
     c.next.result c.next.new.self c.in-Some.owner c.in-Some.is c.next.ensures.steps in
-    let own = owner_at g.N.Named.board.table owners.items (histories_for g.N.Named.config) c.next_place-place.result (length c.loop-owner.yielded) c.in-Some.owner c.requires.owners turn place in
+    let own = owner_at g.N.Named.board.table owners.items (histories_for g.N.Named.config) c.next_place-place.result (length c.loop-owner.yielded) c.in-Some.owner c.requires.fit.owned turn place in
     own.1
 
 pub remove-own-requires : goal.remove-own-requires
@@ -46,14 +46,14 @@ remove-own-requires g c =
     let long : c.into_iter-owner-iterator.result.rest.len ≡ length owners.items = gives.1 ∙ owners.ok.0 in
     let turn = YieldsList-turn (YieldsList-from_vec owners.items gives.0 long) c.loop-owner.yielded c.loop-owner.owner-iterator c.loop-owner.yielded_by
     c.next.result c.next.new.self c.in-Some.owner c.in-Some.is c.next.ensures.steps in
-    let own = owner_at g.N.Named.board.table owners.items (histories_for g.N.Named.config) c.next_place-place.result (length c.loop-owner.yielded) c.in-Some.owner c.requires.owners turn place in
+    let own = owner_at g.N.Named.board.table owners.items (histories_for g.N.Named.config) c.next_place-place.result (length c.loop-owner.yielded) c.in-Some.owner c.requires.fit.owned turn place in
     let i = c.loop-owner.invariant in
     let tables = tables_of g.N.Named.queues in
     let k = length c.loop-owner.passes.items in
     let number : k ≡ c.next_place-place.result - locks_for g.N.Named.config = i.6.many ∙ ap (λ (n : ℕ). n - locks_for g.N.Named.config) (sym place) in
     let least : locks_for g.N.Named.config ≤ c.next_place-place.result = search rules in
     let below : k < g.N.Named.config.callers = omega (arith, number, least, own.0) in
-    let some = some_left c.args.tokens.hands.items c.loop-owner.hands.items k g.N.Named.config.callers i.7 c.requires.hands.0 below in
+    let some = some_left c.args.tokens.hands.items c.loop-owner.hands.items k g.N.Named.config.callers i.7 c.requires.fit.handed.0 below in
     omega (arith, some, c.loop-owner.hands.ok.0)
 
 pub open_pass-requires-clause-hands : goal.open_pass-requires-clause-hands
@@ -64,14 +64,14 @@ open_pass-requires-clause-hands g c =
     let long : c.into_iter-owner-iterator.result.rest.len ≡ length owners.items = gives.1 ∙ owners.ok.0 in
     let turn = YieldsList-turn (YieldsList-from_vec owners.items gives.0 long) c.loop-owner.yielded c.loop-owner.owner-iterator c.loop-owner.yielded_by
     c.next.result c.next.new.self c.in-Some.owner c.in-Some.is c.next.ensures.steps in
-    let own = owner_at g.N.Named.board.table owners.items (histories_for g.N.Named.config) c.next_place-place.result (length c.loop-owner.yielded) c.in-Some.owner c.requires.owners turn place in
+    let own = owner_at g.N.Named.board.table owners.items (histories_for g.N.Named.config) c.next_place-place.result (length c.loop-owner.yielded) c.in-Some.owner c.requires.fit.owned turn place in
     let i = c.loop-owner.invariant in
     let tables = tables_of g.N.Named.queues in
     let k = length c.loop-owner.passes.items in
     let number : k ≡ c.next_place-place.result - locks_for g.N.Named.config = i.6.many ∙ ap (λ (n : ℕ). n - locks_for g.N.Named.config) (sym place) in
     let least : locks_for g.N.Named.config ≤ c.next_place-place.result = search rules in
     let below : k < g.N.Named.config.callers = omega (arith, number, least, own.0) in
-    let taken = next_of c.args.tokens.hands.items c.loop-owner.hands.items c.remove-own.new.self.items k (untouched_hands tables k) c.remove-own.result i.7 (c.requires.hands.1 k below)
+    let taken = next_of c.args.tokens.hands.items c.loop-owner.hands.items c.remove-own.new.self.items k (untouched_hands tables k) c.remove-own.result i.7 (c.requires.fit.handed.1 k below)
     c.remove-own.ensures.value c.remove-own.ensures.items in
     taken.1 ∙ ap (untouched_hands tables) number
 
@@ -90,7 +90,8 @@ loop-owner-preserved g c =
     let k = length c.loop-owner.passes.items in
     let room : c.next_place-place.result < histories_for g.N.Named.config = search rules in
     let below : k < g.N.Named.config.callers = omega (arith, place, least, room, i.6.many) in
-    let taken = next_of all c.loop-owner.hands.items c.remove-own.new.self.items k (untouched_hands tables k) c.remove-own.result i.7 (c.requires.hands.1 k below) c.remove-own.ensures.value c.remove-own.ensures.items in
+    let taken = next_of all c.loop-owner.hands.items c.remove-own.new.self.items k (untouched_hands tables k) c.remove-own.result i.7 (c.requires.fit.handed.1 k below)
+    c.remove-own.ensures.value c.remove-own.ensures.items in
     let long : length c.push-else-place-locks.new.self.items ≡ k + 1 = ap (λ (ps : List PassView). length ps) push.items ∙ length-append c.loop-owner.passes.items (c.open_pass.result ∷ []) in
     let more : suc k ≡ length c.push-else-place-locks.new.self.items = omega (arith, long) in (
       tt,

@@ -1,7 +1,7 @@
 use Rattle.std.proofs.Common.{Result, Ok, ℕ}
 use Rattle.mc_item.specs.declared.fault.Fault.{Fault}
 use Rattle.mc_store.proofs.CallerLemmas.{told_answer}
-use Rattle.mc_store.proofs.pairing.put_if.Goals as goal
+use Rattle.mc_store.proofs.pairing.note_if.Goals as goal
 
 pub returns-then-done-clause-told : goal.returns-then-done-clause-told
 returns-then-done-clause-told g c = λ yes.

@@ -1,0 +1,64 @@
+-- What a walk asks of a class's tokens, which are lent apart from the class, and what it leaves of them (own).
+use Rattle.std.specs.Prelude.{◌≡◌, ℕ, None, Option, is_some, true, IsSomeAnd}
+use Rattle.atomic_table.specs.Seated.{TableId}
+use Rattle.mc_item.specs.declared.{config.Config.Config, item.Who.Who}
+use Rattle.mc_board.specs.{Histories.Grows, Views.OwnerView, Views.SeenView}
+use Rattle.mc_board.specs.declared.rule.Sight.{Sight}
+use Rattle.mc_segment.specs.ClassState.{ClassView}
+use Rattle.mc_stripe.specs.StripeState.{Stripe}
+use Rattle.mc_pull.specs.declared.{context.Context.Context, looking.Judged.Judged, looking.Look.Look}
+use Rattle.mc_pull.specs.{Growth.GainsEvents, Looks.IsJudgedIf, Looks.events_if, Lone.StripeGrows, Settled.class_with, Walker.Walker}
+use Rattle.mc_pull.specs.Question.{HasKeyOf, IsClassOf, MayJudge, Question, question_of}
+use Rattle.mc_store.specs.{Looked.IsKnown, Locked.HasBegun, Made.SearchesOwn, Made.WalksOwn, Serving.IsServed}
+
+-- a call may walk in a class: the class's tokens serve it, and have seen that the call began
+pub record MayWalkWith (board : TableId) (config : Config) (owner : OwnerView) (seen : SeenView) (c : ClassView) (who : Who) (moment : ℕ) : Type 0 where
+  pub served : IsServed board config owner seen c
+  pub begun : HasBegun config seen.sight who moment
+
+-- a call may walk in a class in this context: as in `MayWalkWith`, and the context is of the store, as the class is
+pub record MayTry (board : TableId) (config : Config) (context : Context) (owner : OwnerView) (seen : SeenView) (c : ClassView) (who : Who)
+    (moment : ℕ) : Type 0 where
+  pub class : IsClassOf context.config.now c
+  pub names : context.config.now ≡ config
+  pub served : IsServed board config owner seen c
+  pub begun : HasBegun config seen.sight who moment
+
+-- what a walk of this call leaves: the class's tokens serve it as it is now, and the class gained only events of the call
+pub record LeavesTokens (board : TableId) (config : Config) (who : Who) (moment : ℕ) (before : Sight) (c : ClassView) (owner : OwnerView) (seen : SeenView)
+    (c_new : ClassView) : Type 0 where
+  pub grows : GainsEvents c c_new
+  pub served : IsServed board config owner seen c_new
+  pub walked : WalksOwn who moment before seen.sight c.history c_new.history
+
+-- what a search of this walker leaves: the class's tokens serve it as it is now, its stripe gained only the walker's events, and
+-- so did the class, which gained no survey
+pub record LeavesSearch (board : TableId) (config : Config) (w : Walker) (before : Sight) (c : ClassView) (s : Stripe) (owner : OwnerView) (seen : SeenView)
+    (c_new : ClassView) (s_new : Stripe) : Type 0 where
+  pub served : IsServed board config owner seen c_new
+  pub stripe : StripeGrows w s s_new
+  pub searched : SearchesOwn w.who w.moment before seen.sight c.history c_new.history
+
+-- a look may be judged with a stripe under locks: the look is of the store, its class's tokens serve the class, its question may be
+-- put, the stripe has seen that the call began, and the look isn't judged yet
+pub record MayJudgeUnder (board : TableId) (config : Config) (owner : OwnerView) (seen : SeenView) (look : Look) (stripe : Sight) : Type 0 where
+  pub of : look.ask.config.now ≡ config
+  pub served : IsServed board config owner seen look.class.now
+  pub may : MayJudge look.class.now (question_of look.ask)
+  pub begun : HasBegun config stripe look.ask.who look.ask.moment
+  pub once : look.judged ≡ None
+
+-- an entry was judged with its key's stripe: the class gained just the events of what was done, which follows from a state of the
+-- stripe, and if the entry has a key of the stripe, from the stripe's items as they were
+pub record IsJudgedUnder (config : Config) (s : Stripe) (q : Question) (c c_new : ClassView) (judged : Option Judged) : Type 0 where
+  pub had : is_some judged ≡ true
+  pub class : c_new ≡ class_with c (events_if c q judged) c_new.room
+  pub judged_is : IsJudgedIf config (record { 0 = s.site.stripe }) c q judged
+  pub known : HasKeyOf (record { 0 = s.site.stripe }) config c q → IsSomeAnd judged (IsKnown c s q)
+
+-- what judging leaves: the class's tokens serve it as it is now and have seen no less, and the stripe gained only the walker's events
+pub record LeavesJudged (board : TableId) (config : Config) (w : Walker) (before : Sight) (s : Stripe) (owner : OwnerView) (seen : SeenView) (c : ClassView)
+    (s_new : Stripe) : Type 0 where
+  pub served : IsServed board config owner seen c
+  pub stripe : StripeGrows w s s_new
+  pub sees : Grows before seen.sight
