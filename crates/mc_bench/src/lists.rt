@@ -4,8 +4,8 @@ ghost use Rattle.std.specs.Prelude.{◌≡◌, IfSome};
 ghost use Rattle.mc_item.specs.Config.{IsBounded, IsSound};
 
 use crate::{nanos_each, print_row};
-use mc_item::{ClassNo, Config, Expiry, Fault, Key, Numbers, Passed, Seg, Who, Why};
-use mc_segment::ClassState;
+use mc_item::{ClassNo, Config, Expiry, Fault, Key, Numbers, Passed, Seg, Shifted, Who, Why};
+use mc_segment::{ClassState, EntryKey};
 use std::alloc::Global;
 use std::io;
 use std::time::Instant;
@@ -40,8 +40,8 @@ fn link(alloc: Global, class: &mut ClassState, moment: u64) -> Result<(), Fault>
         return Err(Fault::NoMemory);
     };
     if class.count() < class.chunks() {
-        let copy = key.copy(alloc)?;
-        class.link(WHO, key, Some(copy), 66, moment, Expiry::Never)?;
+        let copy = Some(key.copy(alloc)?);
+        class.link(WHO, EntryKey { key, copy }, 66, moment, Expiry::Never)?;
     }
     Ok(())
 }
@@ -61,15 +61,33 @@ fn force(class: &mut ClassState) -> Result<(), Fault> {
     let Some(entry) = class.from_tail(Seg::Hot, 0) else {
         return Ok(());
     };
-    let number = entry.number;
-    class.shift(WHO, number, Seg::Cold, Why::Forced, 0, Passed::of(&[]), 0)
+    let shifted = Shifted {
+        who: WHO,
+        number: entry.number,
+        from_seg: Seg::Hot,
+        to_seg: Seg::Cold,
+        why: Why::Forced,
+        moment: 0,
+        passed: Passed::of(&[]),
+        at: 0,
+    };
+    class.shift(shifted)
 }
 
 fn hit(class: &mut ClassState, number: u64, moment: u64) -> Result<(), Fault> {
     if class.segment_of(number) != Some(Seg::Cold) {
         return Ok(());
     }
-    class.shift(WHO, number, Seg::Warm, Why::Hit, moment, Passed::of(&[]), 0)
+    class.shift(Shifted {
+        who: WHO,
+        number,
+        from_seg: Seg::Cold,
+        to_seg: Seg::Warm,
+        why: Why::Hit,
+        moment,
+        passed: Passed::of(&[]),
+        at: 0,
+    })
 }
 
 fn unlink(class: &mut ClassState, number: u64) -> Result<(), Fault> {

@@ -41,6 +41,20 @@ impl Step {
     }
 }
 
+/// What an answer's new version is made with: the allocator, and how many versions the stripe has made before.
+#[derive(Clone, Copy)]
+pub struct Making {
+    pub alloc: Global,
+    pub versions: u64,
+}
+
+/// What a longer number is offered: a room, and the class of the chunk that it needs. A class that is given isn't looked up.
+#[derive(Clone, Copy)]
+pub struct Offer {
+    pub class: Option<ClassNo>,
+    pub room: Room,
+}
+
 /// Returns the number after the step, or `None` if the item's value is no number.
 pub fn counted(item: &Item, step: Step) -> Option<u64>
     ensures { result ≡ option_map (answers.stepped step) (measure.numeral_of item.now.value) }
@@ -164,15 +178,14 @@ impl Site {
     // The answer for a number that is longer than the old value.
     fn grown_answer(
         &self,
-        alloc: Global,
-        versions: u64,
+        making: Making,
         item: &Item,
         number: u64,
         class: Option<ClassNo>,
         room: Room,
     ) -> Result<Answer, NoMemory>
-        requires { answers.cas_of self.now versions < 2 ^ 64 }
-        ensures { IfOk result (λ a. a ≡ (answers.grown_row self.now versions item.now number class).answer room) }
+        requires { answers.cas_of self.now making.versions < 2 ^ 64 }
+        ensures { IfOk result (λ a. a ≡ (answers.grown_row self.now making.versions item.now number class).answer room) }
     {
         let refused = Answer {
             reply: Reply::NoSpace,
@@ -188,9 +201,9 @@ impl Site {
                 reply: Reply::Number(number),
                 change: Change::Renewed(Item {
                     flags: item.flags,
-                    value: padded_text(alloc, number, 0)?,
+                    value: padded_text(making.alloc, number, 0)?,
                     expiry: item.expiry,
-                    cas: self.cas_of(versions),
+                    cas: self.cas_of(making.versions),
                     link,
                     marks: Marks {
                         fetched: false,
@@ -204,17 +217,15 @@ impl Site {
     // The answer for the new number, or for a value that is no number.
     fn number_answer(
         &self,
-        alloc: Global,
-        versions: u64,
+        making: Making,
         key: &Key,
         item: &Item,
         counted: Option<u64>,
-        known: Option<ClassNo>,
-        room: Room,
+        offer: Offer,
     ) -> Result<Answer, NoMemory>
-        requires cas { answers.cas_of self.now versions < 2 ^ 64 }
-        requires known { IfSome known (λ class. (answers.number_row self.now versions key.now item.now counted).need ≡ needs.Fresh class) }
-        ensures { IfOk result (λ a. a ≡ (answers.number_row self.now versions key.now item.now counted).answer room) }
+        requires cas { answers.cas_of self.now making.versions < 2 ^ 64 }
+        requires known { IfSome offer.class (λ class. (answers.number_row self.now making.versions key.now item.now counted).need ≡ needs.Fresh class) }
+        ensures { IfOk result (λ a. a ≡ (answers.number_row self.now making.versions key.now item.now counted).answer offer.room) }
     {
         let Some(number) = counted else {
             return Ok(Answer {
@@ -227,30 +238,31 @@ impl Site {
         if digits <= len {
             return Ok(Answer {
                 reply: Reply::Number(number),
-                change: Change::Counted(padded_text(alloc, number, len)?, self.cas_of(versions)),
+                change: Change::Counted(
+                    padded_text(making.alloc, number, len)?,
+                    self.cas_of(making.versions),
+                ),
             });
         }
-        let class = self.class_for(known, cost(key.bytes().len() as u64, digits as u64));
-        self.grown_answer(alloc, versions, item, number, class, room)
+        let class = self.class_for(offer.class, cost(key.bytes().len() as u64, digits as u64));
+        self.grown_answer(making, item, number, class, offer.room)
     }
 
-    /// Returns the answer to `incr` or `decr`, by the key's item and the room given. `known` is the class of the chunk that it
-    /// needs: if it is given, it isn't looked up. The cas number of a new version must be below 2^64. Fails with `NoMemory` if
-    /// there is no memory for the new number's bytes.
+    /// Returns the answer to `incr` or `decr`, by the key's item and what a longer number is offered. The cas number of a new
+    /// version must be below 2^64. Fails with `NoMemory` if there is no memory for the new number's bytes.
     pub fn count_answer(
         &self,
-        alloc: Global,
-        versions: u64,
+        making: Making,
         key: &Key,
         step: Step,
         found: Option<&Item>,
-        known: Option<ClassNo>,
-        room: Room,
+        offer: Offer,
     ) -> Result<Answer, NoMemory>
-        requires cas { answers.cas_of self.now versions < 2 ^ 64 }
-        requires known { IfSome known (λ class. (answers.count_row self.now versions key.now (answers.stepped step) (option_copied found)).need
-            ≡ needs.Fresh class) }
-        ensures { IfOk result (λ a. a ≡ (answers.count_row self.now versions key.now (answers.stepped step) (option_copied found.entry)).answer room) }
+        requires cas { answers.cas_of self.now making.versions < 2 ^ 64 }
+        requires known { IfSome offer.class (λ class. (answers.count_row self.now making.versions key.now (answers.stepped step)
+            (option_copied found)).need ≡ needs.Fresh class) }
+        ensures { IfOk result (λ a. a ≡ (answers.count_row self.now making.versions key.now (answers.stepped step) (option_copied found.entry)).answer
+            offer.room) }
     {
         match found {
             None => Ok(Answer {
@@ -259,7 +271,7 @@ impl Site {
             }),
             Some(item) => {
                 let counted = counted(item, step);
-                self.number_answer(alloc, versions, key, item, counted, known, room)
+                self.number_answer(making, key, item, counted, offer)
             }
         }
     }

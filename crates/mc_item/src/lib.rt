@@ -29,7 +29,7 @@ pub use class_event::{
 };
 pub use command::{Command, Verb};
 pub use config::{Config, ConfigFault};
-pub use counting::{Step, counted, digits_len};
+pub use counting::{Making, Offer, Step, counted, digits_len};
 pub use counts::{Histogram, Moves};
 pub use event::{Event, Logged};
 pub use fault::{Fault, NoMemory};

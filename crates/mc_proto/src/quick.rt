@@ -1,6 +1,6 @@
 //! Reads the most frequent lines in one pass: get of one key, set, add, replace, append and prepend, if they begin with the verb
 //! and a space. For other lines the answer may be `None`; then other functions read them.
-ghost use Rattle.std.specs.Prelude.{◌≡◌, ◌∷◌, ◌++◌, [], ◌<◌, ◌≤◌, ◌^◌, ◌↔◌, IfOk, IsTrue, IfSome, MatchOption, codes, if◌then◌else◌, pos, false};
+ghost use Rattle.std.specs.Prelude.{◌≡◌, ◌∷◌, ◌++◌, [], ◌↔◌, IfOk, IsTrue, IfSome, MatchOption, codes, if◌then◌else◌, false};
 ghost use Rattle.mc_proto.specs.{Grammar.IsFine, Lines.tokens, Table.tokens_say, Words.store_word};
 ghost use Rattle.mc_proto.specs.Table as table;
 ghost use Rattle.mc_proto.specs.declared.request.Limits.{Limits};
@@ -80,37 +80,6 @@ pub fn quiet_end(rest: &[u8]) -> Option<bool>
     Some(true)
 }
 
-// What a good storage line says, by the values of its tokens.
-#[inline(always)]
-fn begun_store(
-    limits: Limits,
-    verb: Verb,
-    key: Key,
-    flags: u64,
-    exptime: u64,
-    count: u64,
-    quiet: bool,
-) -> Said
-    requires flags { flags ≤ 4294967295 }
-    requires exptime { exptime < 10 ^ 18 }
-    requires count { count ≤ 2147483645 }
-    ensures value { result ≡ table.begun limits (record { verb = verb; key = key; flags = flags; exptime = pos exptime; count = count; quiet = quiet }) }
-    ensures fine { IsFine limits result }
-{
-    let exptime = exptime as i64;
-    begun(
-        limits,
-        Start {
-            verb,
-            key,
-            flags: flags as u32,
-            exptime,
-            count,
-            quiet,
-        },
-    )
-}
-
 /// Reads a line `set`, `add`, `replace`, `append` or `prepend` of key, three numbers without sign and perhaps noreply. `None`
 /// says nothing about it.
 #[inline(always)]
@@ -142,5 +111,13 @@ pub fn quick_store(alloc: Global, limits: Limits, line: &[u8]) -> Result<Option<
     let Some(key) = key_of_token(alloc, token)? else {
         return Ok(None);
     };
-    Ok(Some(begun_store(limits, verb, key, flags, exptime, count, quiet)))
+    let start = Start {
+        verb,
+        key,
+        flags: flags as u32,
+        exptime: exptime as i64,
+        count,
+        quiet,
+    };
+    Ok(Some(begun(limits, start)))
 }

@@ -32,41 +32,38 @@ pub fn begun(limits: Limits, start: Start) -> Said
     }
 }
 
-// What a storage line with a good key says, by the tokens of its flags, exptime and bytes.
-fn stored_said(
-    limits: Limits,
-    verb: Verb,
-    key: Key,
-    flags: &[u8],
-    e: &[u8],
-    count: &[u8],
-    quiet: bool,
-) -> Said
+// The tokens of a storage line's numbers.
+#[derive(Drop)]
+struct Numbers<'a> {
+    flags: &'a [u8],
+    exptime: &'a [u8],
+    count: &'a [u8],
+}
+
+// What a storage line with a good key says, by the tokens of its numbers.
+fn stored_said(limits: Limits, verb: Verb, key: Key, numbers: &Numbers<'_>, quiet: bool) -> Said
     ensures value { result ≡ kinds_say limits quiet (kinds.Flags ∷ kinds.Exptime ∷ kinds.Bytes ∷ []) Noreply (table.store limits verb key)
-        (flags.now ∷ e.now ∷ count.now ∷ []) }
+        (numbers.now.flags.now ∷ numbers.now.exptime.now ∷ numbers.now.count.now ∷ []) }
     ensures fine { IsFine limits result }
 {
-    let Some(flags) = number_up_to(MAX_FLAGS, flags) else {
+    let Some(flags) = number_up_to(MAX_FLAGS, numbers.flags) else {
         return no_format(quiet);
     };
-    let Some(exptime) = exptime(e) else {
+    let Some(exptime) = exptime(numbers.exptime) else {
         return no_format(quiet);
     };
-    let Some(count) = number_up_to(MAX_BYTES, count) else {
+    let Some(count) = number_up_to(MAX_BYTES, numbers.count) else {
         return no_format(quiet);
     };
-    let flags = flags as u32;
-    begun(
-        limits,
-        Start {
-            verb,
-            key,
-            flags,
-            exptime,
-            count,
-            quiet,
-        },
-    )
+    let start = Start {
+        verb,
+        key,
+        flags: flags as u32,
+        exptime,
+        count,
+        quiet,
+    };
+    begun(limits, start)
 }
 
 /// Reads the tokens after `set`, `add`, `replace`, `append` or `prepend`: key, flags, exptime and bytes, and perhaps noreply.
@@ -80,7 +77,7 @@ pub fn store_line(
         (map (λ t. t.now) args.now)) }
     ensures fine { IfOk result (λ s. IsFine limits s) }
 {
-    let [key, flags, e, count, rest @ ..] = args else {
+    let [key, flags, exptime, count, rest @ ..] = args else {
         return Ok(no_line());
     };
     let Some(quiet) = quiet_by(rest) else {
@@ -89,28 +86,12 @@ pub fn store_line(
     let Some(key) = key_of_token(alloc, *key)? else {
         return Ok(no_format(quiet));
     };
-    Ok(stored_said(limits, verb, key, *flags, *e, *count, quiet))
-}
-
-// What a line `cas` with a good key says, by the tokens of its four numbers.
-#[tactic(auto, using(crate::proofs::CasLineLemmas::cas_without))]
-fn cas_said(
-    limits: Limits,
-    key: Key,
-    flags: &[u8],
-    e: &[u8],
-    count: &[u8],
-    unique: &[u8],
-    quiet: bool,
-) -> Said
-    ensures value { result ≡ kinds_say limits quiet (kinds.Flags ∷ kinds.Exptime ∷ kinds.Bytes ∷ kinds.CasNumber ∷ []) Noreply
-        (λ flags e n unique. table.store limits (verbs.Cas unique) key flags e n) (flags.now ∷ e.now ∷ count.now ∷ unique.now ∷ []) }
-    ensures fine { IsFine limits result }
-{
-    let Some(unique) = number_up_to(u64::MAX, unique) else {
-        return no_format(quiet);
+    let numbers = Numbers {
+        flags: *flags,
+        exptime: *exptime,
+        count: *count,
     };
-    stored_said(limits, Verb::Cas(unique), key, flags, e, count, quiet)
+    Ok(stored_said(limits, verb, key, &numbers, quiet))
 }
 
 /// Reads the tokens after `cas`: key, flags, exptime, bytes and cas number, and perhaps noreply.
@@ -119,7 +100,7 @@ pub fn cas_line(alloc: Global, limits: Limits, args: &[&[u8]]) -> Result<Said, N
         (λ key flags e n unique. table.store limits (verbs.Cas unique) key flags e n) (map (λ t. t.now) args.now)) }
     ensures fine { IfOk result (λ s. IsFine limits s) }
 {
-    let [key, flags, e, count, unique, rest @ ..] = args else {
+    let [key, flags, exptime, count, unique, rest @ ..] = args else {
         return Ok(no_line());
     };
     let Some(quiet) = quiet_by(rest) else {
@@ -128,5 +109,13 @@ pub fn cas_line(alloc: Global, limits: Limits, args: &[&[u8]]) -> Result<Said, N
     let Some(key) = key_of_token(alloc, *key)? else {
         return Ok(no_format(quiet));
     };
-    Ok(cas_said(limits, key, *flags, *e, *count, *unique, quiet))
+    let Some(unique) = number_up_to(u64::MAX, *unique) else {
+        return Ok(no_format(quiet));
+    };
+    let numbers = Numbers {
+        flags: *flags,
+        exptime: *exptime,
+        count: *count,
+    };
+    Ok(stored_said(limits, Verb::Cas(unique), key, &numbers, quiet))
 }

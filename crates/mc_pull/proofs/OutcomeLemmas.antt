@@ -215,10 +215,8 @@ module _ (c : ClassView) (who : Who) (number moment : ℕ) (passed : List ℕ) (
   -- a move to COLD may come where the table says so
   pub cold_may : (cache : Cache) (s : Seg) (mode : Mode) → segment_of number (lists_of c.history) ≡ Some s → MayJudgeBy c who number moment (Walk s mode passed)
       → done_of c cache (question who number (Walk s mode passed) moment) ≡ done.ToCold
-      → IsSomeAnd (segment_of number (lists_of c.history)) (λ from_seg. MayCome c (shifted_event who number Cold (cold_why c.rule (lists_of c.history) s mode) moment passed at from_seg))
-  cold_may cache s mode seg may made =
-      let Q : Option Seg → Type 0 = λ o. IsSomeAnd o (λ from_seg. MayFor from_seg (cold_why c.rule (lists_of c.history) s mode)) in
-      subst Q (sym seg) (found_may cache s mode (found number (lists_of c.history)) refl seg may made)
+      → MayCome c (shifted_event who number Cold (cold_why c.rule (lists_of c.history) s mode) moment passed at s)
+  cold_may cache s mode seg may made = found_may cache s mode (found number (lists_of c.history)) refl seg may made
 
 -- ---- what is no walk
 -- what is asked is no walk

@@ -9,8 +9,8 @@ ghost use Rattle.mc_pull.specs.Settled.{lost_event, cooled_event};
 ghost use Rattle.mc_stripe.specs.{StripeState.cache_now, StripeCalls.KeepsSite, StripeCalls.Gains};
 
 use crate::judge::Ask;
-use mc_item::{ClassNo, Expiry, Key, Passed, Seg, Who, Why};
-use mc_segment::ClassState;
+use mc_item::{ClassNo, Expiry, Key, Passed, Seg, Shifted, Who, Why};
+use mc_segment::{ClassState, EntryKey};
 use mc_stripe::{StripeState, Turn};
 
 // Adds an entry.
@@ -30,7 +30,8 @@ pub(crate) fn link(
     ensures event { class.new ≡ appended class.old (linked_event class.old turn.who key cost turn.moment expiry) class.new.room }
     ensures room { class.old.room ≤ class.new.room + 1 }
 {
-    match class.link(turn.who, key, copy, cost, turn.moment, expiry) {
+    let key = EntryKey { key, copy };
+    match class.link(turn.who, key, cost, turn.moment, expiry) {
         Ok(_) => {}
         Err(_) => unreachable!(),
     }
@@ -91,7 +92,17 @@ pub(crate) fn shift(
     ensures event { IsSomeAnd (segment_of ask.now.number (lists_of class.old.history))
         (λ from_seg. class.new ≡ appended class.old (shifted_event ask.now.who ask.now.number to_seg why ask.now.moment passed at from_seg) class.new.room) }
 {
-    match class.shift(ask.who, ask.number, to_seg, why, ask.moment, passed, at) {
+    let shifted = Shifted {
+        who: ask.who,
+        number: ask.number,
+        from_seg: class.segment_of(ask.number).unwrap(),
+        to_seg,
+        why,
+        moment: ask.moment,
+        passed,
+        at,
+    };
+    match class.shift(shifted) {
         Ok(()) => {}
         Err(_) => unreachable!(),
     }

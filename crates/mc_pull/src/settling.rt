@@ -15,7 +15,7 @@ use crate::certain;
 use crate::context::Context;
 use crate::judge::{Ask, Done, Judge, Mode};
 use crate::verdict::{is_over, verdict};
-use mc_item::{Config, Fault, Key, Passed, Seg, Why};
+use mc_item::{Config, Fault, Key, Passed, Seg, Shifted, Why};
 use mc_segment::ClassState;
 use mc_stripe::StripeState;
 use std::alloc::Global;
@@ -181,15 +181,16 @@ fn settle_cold(
     let why = cold_why(class, seg, mode, ask.config);
     let at = stripe.history().len() as u64;
     class.law();
-    class.shift(
-        ask.who,
-        ask.number,
-        Seg::Cold,
+    class.shift(Shifted {
+        who: ask.who,
+        number: ask.number,
+        from_seg: seg,
+        to_seg: Seg::Cold,
         why,
-        ask.moment,
-        Passed::of(passed.as_slice()),
+        moment: ask.moment,
+        passed: Passed::of(passed.as_slice()),
         at,
-    )
+    })
 }
 
 // Finds what is to be done with an entry, and does it.

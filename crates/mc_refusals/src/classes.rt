@@ -4,7 +4,8 @@ ghost use Rattle.std.specs.Prelude.{◌≡◌};
 use crate::asking::{MOMENT, key_of};
 use crate::end::{End, end_of};
 use crate::marks::Marks;
-use mc_item::{Expiry, Key, Passed, Seg, Why};
+use mc_item::{Expiry, Key, Passed, Seg, Shifted, Why};
+use mc_segment::EntryKey;
 use mc_testing::{WHO, World};
 
 // The cost of each item, in bytes.
@@ -26,8 +27,12 @@ fn link_keys(world: &mut World, key: Key, copy: Key, marks: Marks) -> End
     if class.count() >= class.chunks() {
         return End::Other;
     }
+    let key = EntryKey {
+        key,
+        copy: Some(copy),
+    };
     marks.begin();
-    let linked = class.link(WHO, key, Some(copy), COST, MOMENT, expiry);
+    let linked = class.link(WHO, key, COST, MOMENT, expiry);
     marks.end();
     end_of(linked)
 }
@@ -117,11 +122,20 @@ pub(crate) fn force(world: &mut World, marks: Marks) -> End {
     let Some(entry) = class.from_tail(Seg::Hot, 0) else {
         return End::Other;
     };
-    let (number, passed) = (entry.number, Passed::of(&[]));
+    let shifted = Shifted {
+        who: WHO,
+        number: entry.number,
+        from_seg: Seg::Hot,
+        to_seg: Seg::Cold,
+        why: Why::Forced,
+        moment: MOMENT,
+        passed: Passed::of(&[]),
+        at: 0,
+    };
     marks.begin();
-    let shifted = class.shift(WHO, number, Seg::Cold, Why::Forced, MOMENT, passed, 0);
+    let forced = class.shift(shifted);
     marks.end();
-    end_of(shifted)
+    end_of(forced)
 }
 
 /// Evicts COLD's tail from a full class.

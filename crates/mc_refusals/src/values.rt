@@ -4,8 +4,8 @@ use crate::end::{End, end_by, end_if};
 use crate::marks::Marks;
 use mc_history::History;
 use mc_item::{
-    ClassEvent, ClassNo, ClassSizes, Command, Config, Expiry, Item, Key, Link, Marks as ItemMarks,
-    Room, Site, Step, Value,
+    ClassEvent, ClassNo, ClassSizes, Command, Config, Expiry, Item, Key, Link, Making,
+    Marks as ItemMarks, Offer, Room, Site, Step, Value,
 };
 use mc_segment::ShownClass;
 use std::alloc::Global;
@@ -118,9 +118,11 @@ fn count_with(alloc: Global, key: &Key, item: &Item, marks: Marks) -> End {
         class: ClassNo(1),
         number: 1,
     });
+    let making = Making { alloc, versions: 1 };
+    let offer = Offer { class: None, room };
     let (step, found) = (Step::Up(5), Some(item));
     marks.begin();
-    let answer = site.count_answer(alloc, 1, key, step, found, None, room);
+    let answer = site.count_answer(making, key, step, found, offer);
     marks.end();
     end_by(answer)
 }

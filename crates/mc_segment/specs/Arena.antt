@@ -1,8 +1,8 @@
 -- Four linked lists in one hash map of places: which lists the places and the ends represent.
-use Rattle.std.specs.Prelude.{ℕ, ◌≡◌, ◌==◌, ◌+◌, ◌-◌, ◌*◌, ◌^◌, ◌≤◌, List, Option, Some, None, true, if◌then◌else◌}
+use Rattle.std.specs.Prelude.{ℕ, ◌≡◌, ◌==◌, ◌+◌, ◌-◌, ◌*◌, ◌^◌, ◌<◌, ◌≤◌, List, Option, Some, None, true, if◌then◌else◌}
 use Rattle.mc_item.specs.declared.{lists.Entry.Entry, lists.Seg.Seg}
 use Rattle.mc_item.specs.declared.lists.Seg.TheVariants.{Hot, Warm, Cold, Temp}
-use Rattle.mc_rule.specs.Lists.{Lists, list_of, cost_sum, count_of}
+use Rattle.mc_rule.specs.Lists.{Lists, list_of, with_list, find, found, without, unlinked, cost_sum, count_of}
 use Rattle.mc_segment.specs.declared.{arena.Node.Node, arena.Listed.Listed, ends.Ends.Ends, ends.Heads.Heads}
 use Rattle.mc_segment.specs.{Nodes.walk, Nodes.IsChain, Neighbours.end_of, Slots.is_among}
 
@@ -24,6 +24,24 @@ HasSlot h q = is_among h.slots q ≡ true
 -- the bytes of all four lists
 abbrev pub all_bytes : Lists → ℕ
 all_bytes l = cost_sum l.hot + cost_sum l.warm + cost_sum l.cold + cost_sum l.temp
+
+-- an entry with this number and cost may be put into a list: its number is below the next one and in no list, and the entries and
+-- their bytes stay within their bounds
+pub record MayPut (h : Held) (number cost : ℕ) : Type 0 where
+  pub absent : found number h.lists ≡ None
+  pub inside : number < h.next
+  pub count : count_of h.lists < h.next
+  pub cost_fits : all_bytes h.lists + cost ≤ 2 ^ 20 * h.next
+
+-- the entry with this number was taken out of the list of its segment, and may be put into a list again
+pub record IsTaken (old new : Held) (number : ℕ) (seg : Seg) (e : Entry) : Type 0 where
+  pub there : find number (list_of old.lists seg) ≡ Some e
+  pub left : with_list old.lists seg (without number (list_of old.lists seg)) ≡ unlinked number old.lists
+  pub number_is : e.number ≡ number
+  pub inside : number < old.next
+  pub count : count_of new.lists + 1 ≡ count_of old.lists
+  pub bytes : all_bytes new.lists + e.cost ≡ all_bytes old.lists
+  pub may_put : MayPut new number e.cost
 
 -- a number for each segment, its code
 abbrev pub code : Seg → ℕ

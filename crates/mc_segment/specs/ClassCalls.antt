@@ -1,8 +1,9 @@
 -- The event that each call of a class makes, and how such a call ends.
-use Rattle.std.specs.Prelude.{ℕ, ◌≡◌, ◌≤◌, List, Result, MatchResult, length}
+use Rattle.std.specs.Prelude.{ℕ, ◌≡◌, ◌≤◌, Bool, List, Result, MatchResult, length}
 use Rattle.mc_item.specs.declared.{class_event.ClassEvent.ClassEvent, class_event.Why.Why, fault.Fault.Fault, item.Expiry.Expiry, item.Who.Who, lists.Seg.Seg}
 use Rattle.mc_item.specs.declared.class_event.ClassEvent.TheVariants as events
-use Rattle.mc_rule.specs.{Lists.lists_of, Lists.entries_linked, Lawful.IsLawfulByLists, Segment.segment_for, Segment.total_of, Segment.cold_age_of}
+use Rattle.mc_rule.specs.{Lists.Lists, Lists.lists_of, Lists.lists_after, Lists.chunks_after, Lists.entries_linked, Lists.entries_linked_by}
+use Rattle.mc_rule.specs.{Lawful.IsLawfulByLists, Lawful.names, Segment.segment_for, Segment.total_of, Segment.cold_age_of}
 use Rattle.mc_segment.specs.declared.surveying.Survey.{Survey}
 use Rattle.mc_segment.specs.ClassState.{ClassView, appended, with_room, HasPlaces, MayRefuse}
 
@@ -61,3 +62,11 @@ Stays c c' = (c' ≡ with_room c c'.room) × (c.room ≤ c'.room)
 -- how a call that makes one event may end: with success if the history had a place, or with a fault that fits
 abbrev pub MayEnd : {A : Type 0} → ClassView → Result A Fault → Type 0
 MayEnd c result = MatchResult result (λ _. HasPlaces c 1) (MayRefuse c 1)
+
+-- the event turns the old lists into the new ones and nothing else: it links no entry, keeps the limit of chunks, and names just
+-- the numbers for which `named` is true
+pub record ChangesLists (old new : Lists) (named : ℕ → Bool) (e : ClassEvent) : Type 0 where
+  pub lists : lists_after old e ≡ new
+  pub links : entries_linked_by e ≡ 0
+  pub limits : (n : ℕ) → chunks_after n e ≡ n
+  pub names : (q : ℕ) → names q e ≡ named q

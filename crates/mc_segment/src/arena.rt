@@ -1,7 +1,7 @@
 //! Four linked lists of entries in one hash map, under the entries' numbers. An entry is unlinked without walking its list.
 ghost use Rattle.std.specs.Prelude.{◌≡◌, ◌+◌, ◌*◌, ◌<◌, ◌≤◌, ◌^◌, ℕ, length, None, Some, true, false, OnOk, IsOk, IfSome, IsSome};
-ghost use Rattle.mc_rule.specs.Lists.{no_lists, list_of, with_list, find, without, found, segment_of, linked, unlinked, moved, cost_sum, count_of, times_in};
-ghost use Rattle.mc_segment.specs.Arena.{all_bytes, HasSlot};
+ghost use Rattle.mc_rule.specs.Lists.{no_lists, list_of, found, segment_of, linked, unlinked, moved, cost_sum, count_of, times_in};
+ghost use Rattle.mc_segment.specs.Arena.{all_bytes, HasSlot, IsTaken, MayPut};
 
 use crate::ends::{Ends, Heads};
 use crate::slots::{Slots, empty, fill, reserve, set_newer, set_older};
@@ -144,12 +144,9 @@ impl Arena {
     // Puts an entry at a list's head. Its number is in no list. A new number gets a slot, any other one has kept its slot.
     #[inline(always)]
     fn put(&mut self, seg: Seg, entry: Entry, is_new: bool)
-        requires absent { found entry.number self.old.lists ≡ None }
-        requires inside { entry.number < self.old.next }
+        requires may { MayPut self.old entry.number entry.cost }
         requires room { is_new ≡ true → 0 < self.old.room }
         requires slot { is_new ≡ false → HasSlot self.old entry.number }
-        requires count { count_of self.old.lists < self.old.next }
-        requires cost { all_bytes self.old.lists + entry.cost ≤ 2 ^ 20 * self.old.next }
         ensures lists { self.new.lists ≡ linked seg entry self.old.lists }
         ensures count { count_of self.new.lists ≡ count_of self.old.lists + 1 }
         ensures next { self.new.next ≡ self.old.next }
@@ -188,14 +185,10 @@ impl Arena {
     #[inline(always)]
     fn take(&mut self, number: u64, keeps: bool) -> Option<(Seg, Entry)>
         ensures entry { result ≡ found number self.old.lists }
-        ensures there { IfSome result (λ p. find number (list_of self.old.lists p.0) ≡ Some p.1) }
-        ensures left { IfSome result (λ p. with_list self.old.lists p.0 (without number (list_of self.old.lists p.0)) ≡ unlinked number self.old.lists) }
+        ensures taken { IfSome result (λ p. IsTaken self.old self.new number p.0 p.1) }
         ensures lists { self.new.lists ≡ unlinked number self.old.lists }
         ensures gone { found number self.new.lists ≡ None }
-        ensures sums { IfSome result (λ p. (p.1.number ≡ number) × (number < self.old.next) × (count_of self.new.lists + 1 ≡ count_of self.old.lists)
-            × (all_bytes self.new.lists + p.1.cost ≡ all_bytes self.old.lists)) }
         ensures slot { keeps ≡ true → IfSome result (λ p. HasSlot self.new number) }
-        ensures fits { IfSome result (λ p. (count_of self.new.lists < self.new.next) × (all_bytes self.new.lists + p.1.cost ≤ 2 ^ 20 * self.new.next)) }
         ensures next { self.new.next ≡ self.old.next }
         ensures same { keeps ≡ true → self.new.room ≡ self.old.room }
         ensures room { self.old.room ≤ self.new.room }

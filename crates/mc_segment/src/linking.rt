@@ -1,11 +1,20 @@
 //! Adds new entries to a class.
-ghost use Rattle.std.specs.Prelude.{◌≡◌, ◌<◌, ◌≤◌, ◌+◌, ◌^◌, Some, true, IfOk, OnOk, OnErr};
+ghost use Rattle.std.specs.Prelude.{◌≡◌, ◌≤◌, ◌+◌, ◌^◌, Some, true, IfOk, OnOk, OnErr};
 ghost use Rattle.mc_rule.specs.Lists.{entries_linked, HasFree};
 ghost use Rattle.mc_rule.specs.Segment as rules;
-ghost use Rattle.mc_segment.specs.{ClassState.HasPlaces, ClassCalls.linked_event, ClassCalls.Makes, ClassCalls.Stays, ClassCalls.MayEnd};
+ghost use Rattle.mc_segment.specs.ClassCalls.{linked_event, Makes, Stays, MayEnd};
 
+use crate::shown::ShownClass;
 use crate::state::ClassState;
-use mc_item::{Expiry, Fault, Key, Seg, Who};
+use mc_item::{ClassEvent, Entry, Expiry, Fault, Key, Linked, Seg, Who};
+use std::snapshot::Snapshot;
+
+/// The key of a new entry. A class that keeps its events needs a copy of it for the event.
+#[derive(Drop)]
+pub struct EntryKey {
+    pub key: Key,
+    pub copy: Option<Key>,
+}
 
 impl ClassState {
     // The segment in which a new entry starts.
@@ -25,52 +34,59 @@ impl ClassState {
     }
 
     /// Links a new entry, which takes the key, and returns its number. The entry starts at TEMP's head if TEMP is in use and the
-    /// item dies within the next `temp_ttl` seconds, else at HOT's. A class that keeps its events needs a copy of the key for the
-    /// event. The class is not full, and the cost is at most 2^20 bytes. Errors: as for `unlink`.
+    /// item dies within the next `temp_ttl` seconds, else at HOT's. The class is not full, and the cost is at most 2^20 bytes.
+    /// Errors: as for `unlink`.
     pub fn link(
         &mut self,
         who: Who,
-        key: Key,
-        copy: Option<Key>,
+        key: EntryKey,
         cost: u64,
         moment: u64,
         expiry: Expiry,
     ) -> Result<u64, Fault>
         requires free { HasFree self.old.chunks self.old.history }
         requires cost { cost ≤ 2 ^ 20 }
-        requires copy { self.old.keeps_events ≡ true → copy ≡ Some key }
+        requires copy { self.old.keeps_events ≡ true → key.copy ≡ Some key.key }
         ensures number { IfOk result (λ number. number ≡ entries_linked self.old.history) }
-        ensures ok { OnOk result (Makes self.old self.new (linked_event self.old who key cost moment expiry)) }
+        ensures ok { OnOk result (Makes self.old self.new (linked_event self.old who key.key cost moment expiry)) }
         ensures err { OnErr result (Stays self.old self.new) }
         ensures refusal { MayEnd self.old result }
         ensures room { self.old.room ≤ self.new.room + 1 }
     {
         let seg = self.segment_for(moment, expiry);
-        self.enter(who, key, copy, cost, seg, moment)
-    }
-
-    /// Does the same as `link`, but takes no memory and can't fail. The room is at least 1, and the history has a place.
-    pub fn link_reserved(
-        &mut self,
-        who: Who,
-        key: Key,
-        copy: Option<Key>,
-        cost: u64,
-        moment: u64,
-        expiry: Expiry,
-    ) -> u64
-        requires room { 0 < self.old.room }
-        requires place { HasPlaces self.old 1 }
-        requires free { HasFree self.old.chunks self.old.history }
-        requires cost { cost ≤ 2 ^ 20 }
-        requires copy { self.old.keeps_events ≡ true → copy ≡ Some key }
-        ensures number { result ≡ entries_linked self.old.history }
-        ensures event { Makes self.old self.new (linked_event self.old who key cost moment expiry) }
-        ensures room { self.old.room ≤ self.new.room + 1 }
-    {
-        let Ok(number) = self.link(who, key, copy, cost, moment, expiry) else {
-            unreachable!();
+        if !self.has_places(1) {
+            return Err(Fault::HistoryFull);
+        }
+        self.history.reserve(1)?;
+        self.lists.reserve(1)?;
+        let EntryKey { key, copy } = key;
+        let number = self.lists.next();
+        let shown = ShownClass::Linked {
+            who,
+            number,
+            key: Snapshot::of(&key),
+            cost,
+            seg,
+            moment,
         };
-        number
+        let event = copy.map(|key| {
+            ClassEvent::Linked(Linked {
+                who,
+                number,
+                key,
+                cost,
+                seg,
+                moment,
+            })
+        });
+        let entry = Entry {
+            number,
+            key,
+            cost,
+            time: moment,
+        };
+        self.lists.push(seg, entry);
+        self.history.push_reserved(&shown, event);
+        Ok(number)
     }
 }

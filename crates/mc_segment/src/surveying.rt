@@ -1,9 +1,9 @@
 //! Makes the events that leave the lists as they are: surveys and refusals.
-ghost use Rattle.std.specs.Prelude.{◌≡◌, ◌<◌, ◌≤◌, ◌+◌, Some, length, slice_get, IfOk, OnOk, OnErr};
+ghost use Rattle.std.specs.Prelude.{◌≡◌, ◌≤◌, ◌+◌, Some, false, length, slice_get, IfOk, OnOk, OnErr};
 ghost use Rattle.mc_rule.specs.{Lists.lists_of, Segment.total_of, Segment.cold_age_of};
-ghost use Rattle.mc_segment.specs.ClassState.{HasPlaces};
-ghost use Rattle.mc_segment.specs.ClassCalls.{survey_of, surveyed_event, refused_event, MayCome, Makes, Stays, MayEnd};
+ghost use Rattle.mc_segment.specs.ClassCalls.{survey_of, surveyed_event, refused_event, MayCome, Makes, Stays, MayEnd, ChangesLists};
 
+use crate::shown::push_whole;
 use crate::state::ClassState;
 use mc_item::{ClassEvent, Fault, Refused, Seg, Surveyed, Who};
 
@@ -17,6 +17,26 @@ pub struct Survey {
 }
 
 impl ClassState {
+    // Notes an event that leaves the lists and the limit of chunks as they are, and returns its place in the history.
+    fn note(&mut self, event: ClassEvent) -> Result<u64, Fault>
+        requires lawful { MayCome self.old event }
+        requires stays { ChangesLists (lists_of self.old.history) (lists_of self.old.history) (λ _. false) event }
+        ensures place { IfOk result (λ place. place ≡ length self.old.history) }
+        ensures noted { IfOk result (λ place. slice_get self.new.history place ≡ Some event) }
+        ensures ok { OnOk result (Makes self.old self.new event) }
+        ensures err { OnErr result (Stays self.old self.new) }
+        ensures refusal { MayEnd self.old result }
+        ensures room { self.old.room ≤ self.new.room + 1 }
+    {
+        if !self.has_places(1) {
+            return Err(Fault::HistoryFull);
+        }
+        self.history.reserve(1)?;
+        let place = self.history.len() as u64;
+        push_whole(&mut self.history, event);
+        Ok(place)
+    }
+
     // The bytes of HOT, WARM and COLD together.
     fn total(&self) -> u64
         ensures { result ≡ total_of (lists_of self.now.history) }
@@ -60,21 +80,6 @@ impl ClassState {
         })
     }
 
-    /// Does the same as `survey`, but takes no memory and can't fail. The room is at least 1, and the history has a place.
-    pub fn survey_reserved(&mut self, who: Who, moment: u64) -> Survey
-        requires room { 0 < self.old.room }
-        requires place { HasPlaces self.old 1 }
-        ensures value { result ≡ survey_of self.old moment }
-        ensures noted { slice_get self.new.history result.place ≡ Some (surveyed_event self.old who moment) }
-        ensures event { Makes self.old self.new (surveyed_event self.old who moment) }
-        ensures room { self.old.room ≤ self.new.room + 1 }
-    {
-        let Ok(survey) = self.survey(who, moment) else {
-            unreachable!();
-        };
-        survey
-    }
-
     /// Notes that no chunk was found in a full class, and returns the event's place in the history. Errors: as for `unlink`.
     pub fn refuse(&mut self, who: Who) -> Result<u64, Fault>
         requires { MayCome self.old (refused_event who) }
@@ -85,23 +90,6 @@ impl ClassState {
         ensures refusal { MayEnd self.old result }
         ensures room { self.old.room ≤ self.new.room + 1 }
     {
-        let place = self.note(ClassEvent::Refused(Refused { who }))?;
-        Ok(place)
-    }
-
-    /// Does the same as `refuse`, but takes no memory and can't fail. The room is at least 1, and the history has a place.
-    pub fn refuse_reserved(&mut self, who: Who) -> u64
-        requires room { 0 < self.old.room }
-        requires place { HasPlaces self.old 1 }
-        requires lawful { MayCome self.old (refused_event who) }
-        ensures place { result ≡ length self.old.history }
-        ensures noted { slice_get self.new.history result ≡ Some (refused_event who) }
-        ensures event { Makes self.old self.new (refused_event who) }
-        ensures room { self.old.room ≤ self.new.room + 1 }
-    {
-        let Ok(place) = self.refuse(who) else {
-            unreachable!();
-        };
-        place
+        self.note(ClassEvent::Refused(Refused { who }))
     }
 }

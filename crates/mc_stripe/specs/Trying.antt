@@ -1,10 +1,10 @@
 -- How a try of a command ends: the command was made, or it wants something, and nothing happened (own).
-use Rattle.std.specs.Prelude.{ℕ, ◌≡◌, Bool, true, List, nat_eq, if◌then◌else◌, Option, Some}
+use Rattle.std.specs.Prelude.{ℕ, ◌≡◌, ◌≤◌, ◌^◌, Bool, true, List, nat_eq, if◌then◌else◌, Option, Some}
 use Rattle.std.specs.Cmp.Lexicographic.{pointwise}
-use Rattle.mc_item.specs.{Answer.Row, Answer.row_of, Cache.changed, Cache.versions_of, Command.key_of}
+use Rattle.mc_item.specs.{Answer.Row, Answer.row_of, Cache.changed, Cache.versions_of, Command.key_of, Measure.stripe_of}
 use Rattle.mc_item.specs.declared.{command.Command.Command, item.Item.Item, item.Who.Who, reply.Reply.Reply, reply.Room.Room}
 use Rattle.mc_stripe.specs.{StripeCalls.Notes, StripeState.Stripe, StripeState.cache_now, Wanting.IsWanting, Wanting.Uses}
-use Rattle.mc_stripe.specs.declared.{fate.Fate.Fate, trying.Done.Done, trying.Made.Made, wanting.Given.Given, wanting.Want.Want}
+use Rattle.mc_stripe.specs.declared.{fate.Fate.Fate, trying.Done.Done, trying.Made.Made, trying.Turn.Turn, wanting.Given.Given, wanting.Want.Want}
 
 -- the new items have this item under the key, and under each other key what the old items have
 abbrev pub Puts : (old new : List ℕ → Option Item) → List ℕ → Option Item → Type 0
@@ -38,6 +38,11 @@ item_of s command = (cache_now s).items (key_of command)
 -- the row of a command at a moment, by the item under its key
 abbrev pub row_at : Stripe → Command → ℕ → Row
 row_at s command moment = row_of s.site (cache_now s).versions (item_of s command) command moment
+
+-- a command may be tried on a stripe in a turn: its key is of this stripe, and the moment is at most 2^62
+pub record MayTry (s : Stripe) (command : Command) (turn : Turn) : Type 0 where
+  pub stripe : stripe_of (key_of command) s.site.stripes ≡ record { 0 = s.site.stripe }
+  pub moment : turn.moment ≤ 2 ^ 62
 
 -- a command was made with what it is given: the history gains its event, and the reply and the fate are those of its row
 pub record IsDone (given : Given) (s s_new : Stripe) (who : Who) (command : Command) (moment : ℕ) (done : Done) : Type 0 where

@@ -3,28 +3,24 @@ ghost use Rattle.std.specs.Prelude.{◌≡◌, ◌≤◌, ◌<◌, ◌+◌, ◌^
 ghost use Rattle.std.specs.{Cmp.Lexicographic.pointwise, HashMap.get, HashMap.spare};
 ghost use Rattle.mc_item.specs.{Answer.cas_of, Answer.row_of, Command.key_of, Stripe.Fits};
 ghost use Rattle.mc_item.specs.Item as items;
-ghost use Rattle.mc_item.specs.Measure as measure;
 ghost use Rattle.mc_item.specs.declared.answer.Need.TheVariants as needs;
 ghost use Rattle.mc_item.specs.declared.fault.Fault.TheVariants as faults;
 ghost use Rattle.mc_item.specs.declared.{item.ClassNo.ClassNo as TheClass, reply.Room.Room as TheRoom};
 ghost use Rattle.mc_stripe.specs.{Joining.content_of, Joining.content_row, StripeCalls.KeepsSite, Wanting.IsTaken};
-ghost use Rattle.mc_stripe.specs.Trying.{IsDone, IsLeft, IsOpen, MakesRow, ItemsStay};
+ghost use Rattle.mc_stripe.specs.Trying.{IsDone, IsLeft, IsOpen, MakesRow, MayTry, ItemsStay};
 
 use crate::counting::count_item;
 use crate::deleting::delete_item;
 use crate::getting::{gat_item, get_item};
 use crate::huge::refuse_huge;
 use crate::joining::{Joint, Side, join_item};
-use crate::putting::put_item;
+use crate::putting::{Measured, put_item};
 use crate::shown::{copy_if, push_answer};
 use crate::state::{StripeState, is_full};
 use crate::touching::touch_item;
-use crate::trying::{Done, Made, Turn};
+use crate::trying::{Done, Made, Trial, Turn};
 use crate::wanting::{Given, Want};
-use mc_item::{
-    Command, Content, Expiry, Fault, Item, Key, NoMemory, Site, Step, Verb, cost, expiry_of,
-};
-use std::alloc::Global;
+use mc_item::{Command, Content, Expiry, Fault, Item, Key, NoMemory, Step, Verb, cost, expiry_of};
 use std::collections::HashMap;
 use std::hash::RandomState;
 
@@ -40,22 +36,19 @@ fn expiry_at(exptime: &i64, moment: u64) -> Expiry
 // Makes a storage command on the items, or says what it wants.
 #[inline(always)]
 fn store_item(
-    alloc: Global,
-    site: &Site,
-    versions: u64,
+    trial: Trial<'_>,
     items: &mut HashMap<Key, Item, RandomState>,
     key: &Key,
     verb: Verb,
     content: &Content<'_>,
-    moment: u64,
-    given: &Given,
 ) -> Result<Result<Made, Want>, NoMemory>
-    requires cas { cas_of site.now versions < 2 ^ 64 }
-    ensures made { IfOk result (λ t. IfOk t (MakesRow true given.now (get (pointwise nat_eq) items.old) (get (pointwise nat_eq) items.new) key.now
-        (content_row site.now versions key.now verb (content_of content.now.flags content.now.value.now content.now.expiry)
-        (get (pointwise nat_eq) items.old key.now)) moment)) }
-    ensures wants { IfOk result (λ t. IfErr t (IsLeft given.now (get (pointwise nat_eq) items.old) (get (pointwise nat_eq) items.new) key.now moment
-        (content_row site.now versions key.now verb (content_of content.now.flags content.now.value.now content.now.expiry)
+    requires cas { cas_of trial.site.now trial.versions < 2 ^ 64 }
+    ensures made { IfOk result (λ t. IfOk t (MakesRow true trial.entry.given.now (get (pointwise nat_eq) items.old) (get (pointwise nat_eq) items.new) key.now
+        (content_row trial.entry.site.now trial.entry.versions key.now verb (content_of content.now.flags content.now.value.now content.now.expiry)
+        (get (pointwise nat_eq) items.old key.now)) trial.entry.moment)) }
+    ensures wants { IfOk result (λ t. IfErr t (IsLeft trial.entry.given.now (get (pointwise nat_eq) items.old) (get (pointwise nat_eq) items.new) key.now
+        trial.entry.moment
+        (content_row trial.entry.site.now trial.entry.versions key.now verb (content_of content.now.flags content.now.value.now content.now.expiry)
         (get (pointwise nat_eq) items.old key.now)))) }
     ensures err { OnErr result (ItemsStay (get (pointwise nat_eq) items.old) (get (pointwise nat_eq) items.new)) }
     ensures spare { spare items.old ≤ spare items.new + 1 }
@@ -66,15 +59,13 @@ fn store_item(
                 side,
                 block: content.value,
             };
-            join_item(alloc, site, versions, items, key, &joint, moment, given)
+            join_item(trial, items, key, &joint)
         }
         None => {
             let cost = cost(key.bytes().len() as u64, content.value.bytes().len() as u64);
-            match site.class_of(cost) {
-                None => Ok(refuse_huge(items, key, verb, moment, given)),
-                Some(fresh) => put_item(
-                    alloc, site, versions, items, key, verb, content, cost, fresh, moment, given,
-                ),
+            match trial.site.class_of(cost) {
+                None => Ok(refuse_huge(items, key, verb, trial.moment, trial.given)),
+                Some(class) => put_item(trial, items, key, verb, content, Measured { cost, class }),
             }
         }
     }
@@ -83,31 +74,29 @@ fn store_item(
 // Makes a command on the items, or says what it wants. Each kind of command has a function of its own, by its row of the table.
 #[inline(always)]
 fn make(
-    alloc: Global,
-    site: &Site,
-    versions: u64,
+    trial: Trial<'_>,
     items: &mut HashMap<Key, Item, RandomState>,
     command: &Command,
-    moment: u64,
-    given: &Given,
     keeps: bool,
 ) -> Result<Result<Made, Want>, NoMemory>
-    requires cas { cas_of site.now versions < 2 ^ 64 }
-    requires moment { moment ≤ 2 ^ 62 }
-    ensures made { IfOk result (λ t. IfOk t (MakesRow keeps given.now (get (pointwise nat_eq) items.old) (get (pointwise nat_eq) items.new) (key_of command.now)
-        (row_of site.now versions (get (pointwise nat_eq) items.old (key_of command.now)) command.now moment) moment)) }
-    ensures wants { IfOk result (λ t. IfErr t (IsLeft given.now (get (pointwise nat_eq) items.old) (get (pointwise nat_eq) items.new) (key_of command.now)
-        moment (row_of site.now versions (get (pointwise nat_eq) items.old (key_of command.now)) command.now moment))) }
+    requires cas { cas_of trial.site.now trial.versions < 2 ^ 64 }
+    requires moment { trial.moment ≤ 2 ^ 62 }
+    ensures made { IfOk result (λ t. IfOk t (MakesRow keeps trial.entry.given.now (get (pointwise nat_eq) items.old) (get (pointwise nat_eq) items.new)
+        (key_of command.now) (row_of trial.entry.site.now trial.entry.versions (get (pointwise nat_eq) items.old (key_of command.now)) command.now
+        trial.entry.moment) trial.entry.moment)) }
+    ensures wants { IfOk result (λ t. IfErr t (IsLeft trial.entry.given.now (get (pointwise nat_eq) items.old) (get (pointwise nat_eq) items.new)
+        (key_of command.now) trial.entry.moment (row_of trial.entry.site.now trial.entry.versions (get (pointwise nat_eq) items.old (key_of command.now))
+        command.now trial.entry.moment))) }
     ensures err { OnErr result (ItemsStay (get (pointwise nat_eq) items.old) (get (pointwise nat_eq) items.new)) }
     ensures spare { spare items.old ≤ spare items.new + 1 }
 {
     match command {
-        Command::Get(key) => get_item(items, key, moment, keeps),
+        Command::Get(key) => get_item(items, key, trial.moment, keeps),
         Command::Gat(key, exptime) => gat_item(
             items,
             key,
-            expiry_at(exptime, moment),
-            moment,
+            expiry_at(exptime, trial.moment),
+            trial.moment,
             keeps,
         ),
         Command::Store {
@@ -120,26 +109,20 @@ fn make(
             let content = Content {
                 flags: *flags,
                 value,
-                expiry: expiry_at(exptime, moment),
+                expiry: expiry_at(exptime, trial.moment),
             };
-            store_item(
-                alloc, site, versions, items, key, *verb, &content, moment, given,
-            )
+            store_item(trial, items, key, *verb, &content)
         }
-        Command::Huge { verb, key } => Ok(refuse_huge(items, key, *verb, moment, given)),
-        Command::Incr(key, delta) => {
-            let step = Step::Up(*delta);
-            count_item(alloc, site, versions, items, key, step, moment, given)
+        Command::Huge { verb, key } => {
+            Ok(refuse_huge(items, key, *verb, trial.moment, trial.given))
         }
-        Command::Decr(key, delta) => {
-            let step = Step::Down(*delta);
-            count_item(alloc, site, versions, items, key, step, moment, given)
-        }
+        Command::Incr(key, delta) => count_item(trial, items, key, Step::Up(*delta)),
+        Command::Decr(key, delta) => count_item(trial, items, key, Step::Down(*delta)),
         Command::Touch(key, exptime) => {
-            let expiry = expiry_at(exptime, moment);
-            Ok(touch_item(items, key, expiry, moment))
+            let expiry = expiry_at(exptime, trial.moment);
+            Ok(touch_item(items, key, expiry, trial.moment))
         }
-        Command::Delete(key) => Ok(delete_item(items, key, moment, given)),
+        Command::Delete(key) => Ok(delete_item(items, key, trial.moment, trial.given)),
     }
 }
 
@@ -157,8 +140,7 @@ impl StripeState {
         turn: Turn,
         given: &Given,
     ) -> Result<Result<Done, Want>, Fault>
-        requires stripe { measure.stripe_of (key_of command.now) self.old.site.stripes ≡ record { 0 = self.old.site.stripe } }
-        requires moment { turn.moment ≤ 2 ^ 62 }
+        requires may { MayTry self.old command.now turn }
         requires given { (class : TheClass) (room : TheRoom) → IsTaken given.now (needs.Fresh class) room → Fits (needs.Fresh class) room self.old.history }
         ensures made { IfOk result (λ t. IfOk t (IsDone given.now self.old self.new turn.who command.now turn.moment)) }
         ensures wants { IfOk result (λ t. IfErr t (IsOpen given.now self.old self.new command.now turn.moment)) }
@@ -173,16 +155,14 @@ impl StripeState {
         self.history.reserve(1)?;
         let keeps = self.history.keeps();
         let copy = copy_if(self.alloc, command, keeps)?;
-        let Made { done, noted, added } = match make(
-            self.alloc,
-            &self.site,
-            self.versions,
-            &mut self.items,
-            command,
-            turn.moment,
+        let trial = Trial {
+            alloc: self.alloc,
+            site: &self.site,
+            versions: self.versions,
+            moment: turn.moment,
             given,
-            keeps,
-        )? {
+        };
+        let Made { done, noted, added } = match make(trial, &mut self.items, command, keeps)? {
             Ok(made) => made,
             Err(want) => return Ok(Err(want)),
         };

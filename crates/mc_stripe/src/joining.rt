@@ -6,12 +6,10 @@ ghost use Rattle.mc_item.specs.Measure as measure;
 ghost use Rattle.mc_stripe.specs.{Joining.joining_row, Trying.IsLeft, Trying.MakesRow, Trying.ItemsStay};
 ghost use Rattle.mc_stripe.specs.Joining as words;
 
-use crate::putting::{Found, decide};
-use crate::trying::{Made, untouched};
-use crate::wanting::{Given, Want};
-use mc_item::{
-    ClassNo, Content, Item, Key, NoMemory, Reply, Room, Site, Value, Verb, cost, least_class,
-};
+use crate::putting::{Found, Measured, decide};
+use crate::trying::{Made, Trial, untouched};
+use crate::wanting::Want;
+use mc_item::{Content, Item, Key, NoMemory, Reply, Room, Site, Value, Verb, cost, least_class};
 use std::alloc::Global;
 use std::collections::HashMap;
 use std::hash::RandomState;
@@ -60,9 +58,9 @@ impl Joint<'_> {
 // The cost of an item with this key and the bytes of both values, and its class. None if each class is too small for it, as for a
 // cost of 2^64 or more.
 #[inline(always)]
-fn cost_of_both(site: &Site, key: &Key, value: &Value, block: &Value) -> Option<(u64, ClassNo)>
-    ensures cost { IfSome result (λ r. r.0 ≡ cost_of key.now (value.now ++ block.now)) }
-    ensures class { IfSome result (λ r. measure.class_of site.now.sizes (cost_of key.now (value.now ++ block.now)) ≡ Some r.1) }
+fn cost_of_both(site: &Site, key: &Key, value: &Value, block: &Value) -> Option<Measured>
+    ensures cost { IfSome result (λ measured. measured.cost ≡ cost_of key.now (value.now ++ block.now)) }
+    ensures class { IfSome result (λ measured. measure.class_of site.now.sizes (cost_of key.now (value.now ++ block.now)) ≡ Some measured.class) }
     ensures none { IfNone result (measure.class_of site.now.sizes (cost_of key.now (value.now ++ block.now)) ≡ None) }
 {
     let sizes = site.sizes.as_slice();
@@ -72,37 +70,35 @@ fn cost_of_both(site: &Site, key: &Key, value: &Value, block: &Value) -> Option<
     };
     match least_class(sizes, cost) {
         None => None,
-        Some(class) => Some((cost, class)),
+        Some(class) => Some(Measured { cost, class }),
     }
 }
 
 /// Makes an append or prepend, with one look-up. The item keeps its flags and its expiry.
 #[inline(always)]
 pub(crate) fn join_item(
-    alloc: Global,
-    site: &Site,
-    versions: u64,
+    trial: Trial<'_>,
     items: &mut HashMap<Key, Item, RandomState>,
     key: &Key,
     joint: &Joint<'_>,
-    moment: u64,
-    given: &Given,
 ) -> Result<Result<Made, Want>, NoMemory>
-    requires cas { cas_of site.now versions < 2 ^ 64 }
-    ensures made { IfOk result (λ t. IfOk t (MakesRow true given.now (get (pointwise nat_eq) items.old) (get (pointwise nat_eq) items.new) key.now
-        (joining_row site.now versions key.now joint.now.side joint.now.block.now (get (pointwise nat_eq) items.old key.now)) moment)) }
-    ensures wants { IfOk result (λ t. IfErr t (IsLeft given.now (get (pointwise nat_eq) items.old) (get (pointwise nat_eq) items.new) key.now moment
-        (joining_row site.now versions key.now joint.now.side joint.now.block.now (get (pointwise nat_eq) items.old key.now)))) }
+    requires cas { cas_of trial.site.now trial.versions < 2 ^ 64 }
+    ensures made { IfOk result (λ t. IfOk t (MakesRow true trial.entry.given.now (get (pointwise nat_eq) items.old) (get (pointwise nat_eq) items.new) key.now
+        (joining_row trial.entry.site.now trial.entry.versions key.now joint.now.side joint.now.block.now (get (pointwise nat_eq) items.old key.now))
+        trial.entry.moment)) }
+    ensures wants { IfOk result (λ t. IfErr t (IsLeft trial.entry.given.now (get (pointwise nat_eq) items.old) (get (pointwise nat_eq) items.new) key.now
+        trial.entry.moment
+        (joining_row trial.entry.site.now trial.entry.versions key.now joint.now.side joint.now.block.now (get (pointwise nat_eq) items.old key.now)))) }
     ensures err { OnErr result (ItemsStay (get (pointwise nat_eq) items.old) (get (pointwise nat_eq) items.new)) }
     ensures spare { spare items.new ≡ spare items.old }
 {
     let Some(item) = items.get_mut(key) else {
         return Ok(Ok(untouched(Reply::NotStored, Reply::NotStored, 0)));
     };
-    if item.dead(moment) {
+    if item.dead(trial.moment) {
         return Ok(Err(Want::Burial(item.link)));
     }
-    let Some((cost, fresh)) = cost_of_both(site, key, &item.value, joint.block) else {
+    let Some(measured) = cost_of_both(trial.site, key, &item.value, joint.block) else {
         return Ok(Ok(untouched(Reply::TooLarge, Reply::TooLarge, 0)));
     };
     let found = Found {
@@ -110,18 +106,24 @@ pub(crate) fn join_item(
         cas: item.cas,
     };
     // A prepend is decided as an append.
-    let put = match decide(Verb::Append, item.expiry, cost, fresh, Some(found), given) {
+    let put = match decide(
+        Verb::Append,
+        item.expiry,
+        measured,
+        Some(found),
+        trial.given,
+    ) {
         Ok(put) => put,
         Err(want) => return Ok(Err(want)),
     };
     if let Room::At(link) = put.room {
-        let value = joint.joined(alloc, &item.value)?;
+        let value = joint.joined(trial.alloc, &item.value)?;
         let content = Content {
             flags: item.flags,
             value: &value,
             expiry: item.expiry,
         };
-        site.renew(versions, item, &content, link)?;
+        trial.site.renew(trial.versions, item, &content, link)?;
     }
     Ok(Ok(put.made()))
 }

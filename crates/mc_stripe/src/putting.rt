@@ -10,12 +10,11 @@ ghost use Rattle.mc_stripe.specs.Putting.{IsDecided, KnowsItem, answer_of_room, 
 
 use crate::changing::remove;
 use crate::fate::Fate;
-use crate::trying::{Made, made_with};
+use crate::trying::{Made, Trial, made_with};
 use crate::wanting::{Given, Want};
 use mc_item::{
     ClassNo, Content, Expiry, Item, Key, Link, Marks, NoMemory, Reply, Room, Site, Verb,
 };
-use std::alloc::Global;
 use std::collections::HashMap;
 use std::hash::RandomState;
 
@@ -152,6 +151,13 @@ fn let_go(verb: Verb, old: Option<Link>) -> Fate
     }
 }
 
+// What is measured of a new version: its cost, and the class that holds it.
+#[derive(Clone, Copy)]
+pub(crate) struct Measured {
+    pub(crate) cost: u64,
+    pub(crate) class: ClassNo,
+}
+
 // What becomes of the key's chunks if nothing declines the command, by the room that it is given.
 #[inline(always)]
 fn fate_in(room: Room, verb: Verb, cost: u64, expiry: Expiry, old: Option<Link>) -> Fate
@@ -182,15 +188,16 @@ fn answer_in(room: Room) -> PutAnswer
 pub(crate) fn decide(
     verb: Verb,
     expiry: Expiry,
-    cost: u64,
-    fresh: ClassNo,
+    measured: Measured,
     found: Option<Found>,
     given: &Given,
 ) -> Result<Put, Want>
-    ensures made { (key : List ℕ) (item : Option TheItem) (moment : ℕ) (version : TheLink → TheItem) → KnowsItem found cost expiry key item moment version
-        → IfOk result (IsDecided given.now key item moment (store_row (Some fresh) verb item version) version) }
-    ensures wants { (key : List ℕ) (item : Option TheItem) (moment : ℕ) (version : TheLink → TheItem) → KnowsItem found cost expiry key item moment version
-        → IfErr result (IsWanting given.now key item moment (store_row (Some fresh) verb item version)) }
+    ensures made { (key : List ℕ) (item : Option TheItem) (moment : ℕ) (version : TheLink → TheItem)
+        → KnowsItem found measured.cost expiry key item moment version
+        → IfOk result (IsDecided given.now key item moment (store_row (Some measured.class) verb item version) version) }
+    ensures wants { (key : List ℕ) (item : Option TheItem) (moment : ℕ) (version : TheLink → TheItem)
+        → KnowsItem found measured.cost expiry key item moment version
+        → IfErr result (IsWanting given.now key item moment (store_row (Some measured.class) verb item version)) }
 {
     if let Some(answer) = declines(verb, cas_in(found)) {
         return Ok(Put {
@@ -200,8 +207,8 @@ pub(crate) fn decide(
         });
     }
     let old = link_in(found);
-    let room = given.room(fresh, old)?;
-    let fate = fate_in(room, verb, cost, expiry, old);
+    let room = given.room(measured.class, old)?;
+    let fate = fate_in(room, verb, measured.cost, expiry, old);
     if let Some(class) = given.crowded(room, fate) {
         return Err(Want::Place(class));
     }
@@ -231,55 +238,51 @@ fn new_item(site: &Site, versions: u64, content: &Content<'_>, link: Link) -> Re
 /// Makes a storage command. One look-up finds the item. Adding or removing an item takes another.
 #[inline(always)]
 pub(crate) fn put_item(
-    alloc: Global,
-    site: &Site,
-    versions: u64,
+    trial: Trial<'_>,
     items: &mut HashMap<Key, Item, RandomState>,
     key: &Key,
     verb: Verb,
     content: &Content<'_>,
-    cost: u64,
-    fresh: ClassNo,
-    moment: u64,
-    given: &Given,
+    measured: Measured,
 ) -> Result<Result<Made, Want>, NoMemory>
-    requires cas { cas_of site.now versions < 2 ^ 64 }
-    requires cost { cost ≡ cost_of key.now content.now.value.now }
-    ensures made { IfOk result (λ t. IfOk t (MakesRow true given.now (get (pointwise nat_eq) items.old) (get (pointwise nat_eq) items.new) key.now
-        (store_row (Some fresh) verb (get (pointwise nat_eq) items.old key.now)
-        (version_of site.now versions content.now.flags content.now.value.now content.now.expiry)) moment)) }
-    ensures wants { IfOk result (λ t. IfErr t (IsLeft given.now (get (pointwise nat_eq) items.old) (get (pointwise nat_eq) items.new) key.now moment
-        (store_row (Some fresh) verb (get (pointwise nat_eq) items.old key.now)
-        (version_of site.now versions content.now.flags content.now.value.now content.now.expiry)))) }
+    requires cas { cas_of trial.site.now trial.versions < 2 ^ 64 }
+    requires cost { measured.cost ≡ cost_of key.now content.now.value.now }
+    ensures made { IfOk result (λ t. IfOk t (MakesRow true trial.entry.given.now (get (pointwise nat_eq) items.old) (get (pointwise nat_eq) items.new) key.now
+        (store_row (Some measured.class) verb (get (pointwise nat_eq) items.old key.now)
+        (version_of trial.entry.site.now trial.entry.versions content.now.flags content.now.value.now content.now.expiry)) trial.entry.moment)) }
+    ensures wants { IfOk result (λ t. IfErr t (IsLeft trial.entry.given.now (get (pointwise nat_eq) items.old) (get (pointwise nat_eq) items.new) key.now
+        trial.entry.moment
+        (store_row (Some measured.class) verb (get (pointwise nat_eq) items.old key.now)
+        (version_of trial.entry.site.now trial.entry.versions content.now.flags content.now.value.now content.now.expiry)))) }
     ensures err { OnErr result (ItemsStay (get (pointwise nat_eq) items.old) (get (pointwise nat_eq) items.new)) }
     ensures spare { spare items.old ≤ spare items.new + 1 }
 {
     let Some(item) = items.get_mut(key) else {
-        let put = match decide(verb, content.expiry, cost, fresh, None, given) {
+        let put = match decide(verb, content.expiry, measured, None, trial.given) {
             Ok(put) => put,
             Err(want) => return Ok(Err(want)),
         };
         if let Room::At(link) = put.room {
             items.reserve(1)?;
-            let name = key.copy(alloc)?;
-            let item = new_item(site, versions, content, link)?;
+            let name = key.copy(trial.alloc)?;
+            let item = new_item(trial.site, trial.versions, content, link)?;
             let _ = items.insert(name, item);
         }
         return Ok(Ok(put.made()));
     };
-    if item.dead(moment) {
+    if item.dead(trial.moment) {
         return Ok(Err(Want::Burial(item.link)));
     }
     let found = Found {
         link: item.link,
         cas: item.cas,
     };
-    let put = match decide(verb, content.expiry, cost, fresh, Some(found), given) {
+    let put = match decide(verb, content.expiry, measured, Some(found), trial.given) {
         Ok(put) => put,
         Err(want) => return Ok(Err(want)),
     };
     if let Room::At(link) = put.room {
-        site.renew(versions, item, content, link)?;
+        trial.site.renew(trial.versions, item, content, link)?;
     } else if goes_by(put.fate) {
         remove(items, key);
     }

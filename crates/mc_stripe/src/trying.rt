@@ -4,13 +4,26 @@ ghost use Rattle.mc_item.specs.declared.reply.Room.TheVariants as rooms;
 ghost use Rattle.mc_stripe.specs.declared.fate.Fate.TheVariants as fates;
 
 use crate::fate::Fate;
-use mc_item::{Reply, Room, Who};
+use crate::wanting::Given;
+use mc_item::{Reply, Room, Site, Who};
+use std::alloc::Global;
 
 /// A caller's turn: the caller with the number of its call, and the moment, which is the time of the call in seconds.
 #[derive(Clone, Copy, Debug, PartialEq, Eq)]
 pub struct Turn {
     pub who: Who,
     pub moment: u64,
+}
+
+/// What is fixed for one try of a command: the allocator, the stripe's site and how many versions it has made, the moment, and
+/// what the command is given.
+#[derive(Clone, Copy)]
+pub(crate) struct Trial<'a> {
+    pub(crate) alloc: Global,
+    pub(crate) site: &'a Site,
+    pub(crate) versions: u64,
+    pub(crate) moment: u64,
+    pub(crate) given: &'a Given,
 }
 
 /// What a command did: its reply, the room that it took, and what became of its key's item and its chunk.

@@ -7,7 +7,7 @@ use crate::commands::storage;
 use crate::links::may_give;
 use mc_item::{ClassNo, Command, Config, Link, Moves, Numbers, Room, StripeNo, Verb, Who};
 use mc_pull::{Context, Lone};
-use mc_segment::ClassState;
+use mc_segment::{ClassState, EntryKey};
 use mc_stripe::{Given, Home, Other, StripeState, Turn};
 use std::alloc::Global;
 use std::hash::RandomState;
@@ -100,7 +100,7 @@ pub fn store(world: &mut World, letter: u8, exptime: i64, moment: u64) -> Result
         return Err(Fail::from("the class is full"));
     }
     let copy = Some(key.copy(alloc)?);
-    class.link(WHO, key, copy, 66, moment, expiry)?;
+    class.link(WHO, EntryKey { key, copy }, 66, moment, expiry)?;
     Ok(())
 }
 

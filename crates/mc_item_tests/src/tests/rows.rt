@@ -3,7 +3,7 @@
 use crate::tests::{
     AT, GROWN, NO_MARKS, REFUSED, item, key, same, same_bytes, site, text_of, value,
 };
-use mc_item::{ClassNo, Content, Expiry, Item, Key, Link, Marks, Room, Step, Value};
+use mc_item::{ClassNo, Content, Expiry, Item, Key, Link, Making, Marks, Offer, Room, Step, Value};
 use std::alloc::Global;
 use std::process::Abort;
 
@@ -39,8 +39,10 @@ fn text_of_count(
     step: Step,
     room: Room,
 ) -> String {
+    let making = Making { alloc, versions: 5 };
+    let offer = Offer { class: None, room };
     let answer = site()
-        .count_answer(alloc, 5, key, step, Some(found), None, room)
+        .count_answer(making, key, step, Some(found), offer)
         .expect(rt, "memory");
     text_of(rt, alloc, &answer)
 }

@@ -74,19 +74,17 @@ fn moves_for_bytes<R: Abort>(rt: &R, class: &mut ClassState, turn: u64, j: u64)
     let number = class.from_tail(Seg::Hot, j).expect(rt, "an entry").number;
     let passed = class.passed(Seg::Hot, j);
     assert!(rt; survey.total < 2000 && survey.total * 20 / 100 < class.bytes(Seg::Hot));
-    let why = Why::Over(survey.place);
-    class
-        .shift_from(
-            who_of(turn),
-            number,
-            Seg::Hot,
-            Seg::Cold,
-            why,
-            moment,
-            passed,
-            31,
-        )
-        .expect(rt, "a move");
+    let shifted = Shifted {
+        who: who_of(turn),
+        number,
+        from_seg: Seg::Hot,
+        to_seg: Seg::Cold,
+        why: Why::Over(survey.place),
+        moment,
+        passed,
+        at: 31,
+    };
+    class.shift(shifted).expect(rt, "a move");
 }
 
 // A survey at a moment, and by it a move of HOT's tail to COLD, for its age.
@@ -100,19 +98,17 @@ fn moves_for_age<R: Abort>(rt: &R, class: &mut ClassState, turn: u64, moment: u6
     let passed = class.passed(Seg::Hot, 0);
     assert!(rt; survey.total < 2000 && class.bytes(Seg::Hot) <= survey.total * 20 / 100);
     assert!(rt; survey.cold_age < 2000 && survey.cold_age * 20 / 100 < age);
-    let why = Why::Old(survey.place);
-    class
-        .shift_from(
-            who_of(turn),
-            number,
-            Seg::Hot,
-            Seg::Cold,
-            why,
-            moment,
-            passed,
-            32,
-        )
-        .expect(rt, "a move");
+    let shifted = Shifted {
+        who: who_of(turn),
+        number,
+        from_seg: Seg::Hot,
+        to_seg: Seg::Cold,
+        why: Why::Old(survey.place),
+        moment,
+        passed,
+        at: 32,
+    };
+    class.shift(shifted).expect(rt, "a move");
 }
 
 fn linked_text<R: Abort>(rt: &R, alloc: Global, e: &Linked) -> String {

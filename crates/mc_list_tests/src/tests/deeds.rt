@@ -3,8 +3,8 @@
 ghost use Rattle.std.specs.Prelude.{◌≡◌, ◌≤◌, ◌^◌, Some, true, IfOk};
 
 use super::WHO;
-use mc_item::{Expiry, Fault, Key, Passed, Seg, Who, Why};
-use mc_segment::ClassState;
+use mc_item::{Expiry, Fault, Key, Passed, Seg, Shifted, Who, Why};
+use mc_segment::{ClassState, EntryKey};
 use std::alloc::Global;
 use std::process::Abort;
 
@@ -24,19 +24,17 @@ pub(super) struct New<'a> {
     pub expiry: Expiry,
 }
 
-// The key of these bytes.
-fn key<R: Abort>(rt: &R, alloc: Global, bytes: &[u8]) -> Key {
-    Key::of(alloc, bytes).expect(rt, "a key")
-}
-
-// A copy of the key, if the class keeps its events.
-fn copy_for<R: Abort>(rt: &R, alloc: Global, class: &ClassState, key: &Key) -> Option<Key>
-    ensures { class.now.keeps_events ≡ true → result ≡ Some key.now }
+// The key of these bytes for a new entry of the class.
+fn key_for<R: Abort>(rt: &R, alloc: Global, class: &ClassState, bytes: &[u8]) -> EntryKey
+    ensures { class.now.keeps_events ≡ true → result.copy ≡ Some result.key }
 {
-    if !class.keeps_events() {
-        return None;
-    }
-    Some(key.copy(alloc).expect(rt, "a copy"))
+    let key = Key::of(alloc, bytes).expect(rt, "a key");
+    let copy = if class.keeps_events() {
+        Some(key.copy(alloc).expect(rt, "a copy"))
+    } else {
+        None
+    };
+    EntryKey { key, copy }
 }
 
 // The test goes on where an entry of this cost may be linked.
@@ -58,9 +56,8 @@ pub(super) fn try_link<R: Abort>(
 {
     asserts_cost(rt, new.cost);
     assert!(rt; class.count() < class.chunks());
-    let key = key(rt, alloc, new.key);
-    let copy = copy_for(rt, alloc, class, &key);
-    class.link(who, key, copy, new.cost, new.moment, new.expiry)
+    let key = key_for(rt, alloc, class, new.key);
+    class.link(who, key, new.cost, new.moment, new.expiry)
 }
 
 /// A new entry in a class with a free chunk.
@@ -74,41 +71,6 @@ pub(super) fn link<R: Abort>(
     ensures { class.new.rule ≡ class.old.rule }
 {
     try_link(rt, alloc, class, who, new).expect(rt, "a link")
-}
-
-/// A new entry in a class with a free chunk, in room that was made.
-pub(super) fn link_reserved<R: Abort>(
-    rt: &R,
-    alloc: Global,
-    class: &mut ClassState,
-    new: New,
-) -> u64 {
-    asserts_cost(rt, new.cost);
-    class.reserve(1).expect(rt, "room");
-    assert!(rt; class.count() < class.chunks());
-    let key = key(rt, alloc, new.key);
-    let copy = copy_for(rt, alloc, class, &key);
-    class.link_reserved(WHO, key, copy, new.cost, new.moment, new.expiry)
-}
-
-/// Two new entries of 66 bytes after one reservation; the number of the second.
-pub(super) fn link_two<R: Abort>(
-    rt: &R,
-    alloc: Global,
-    class: &mut ClassState,
-    first: &str,
-    second: &str,
-    moment: u64,
-) -> u64 {
-    let first = key(rt, alloc, first.as_bytes());
-    let second = key(rt, alloc, second.as_bytes());
-    let first_copy = copy_for(rt, alloc, class, &first);
-    let second_copy = copy_for(rt, alloc, class, &second);
-    class.reserve(2).expect(rt, "room");
-    assert!(rt; class.count() < class.chunks());
-    class.link_reserved(WHO, first, first_copy, 66, moment, Expiry::Never);
-    assert!(rt; class.count() < class.chunks());
-    class.link_reserved(WHO, second, second_copy, 66, moment, Expiry::Never)
 }
 
 /// The entry at a place from HOT's tail is to go to COLD in a full class.
@@ -125,16 +87,17 @@ pub(super) fn try_force<R: Abort>(
     assert!(rt; class.is_full() && j <= 4 && j < class.len(Seg::Hot));
     let number = class.from_tail(Seg::Hot, j).expect(rt, "an entry").number;
     let passed = class.passed(Seg::Hot, j);
-    match class.shift_from(
+    let shifted = Shifted {
         who,
         number,
-        Seg::Hot,
-        Seg::Cold,
-        Why::Forced,
+        from_seg: Seg::Hot,
+        to_seg: Seg::Cold,
+        why: Why::Forced,
         moment,
         passed,
         at,
-    ) {
+    };
+    match class.shift(shifted) {
         Ok(()) => Ok(number),
         Err(fault) => Err(fault),
     }
@@ -153,25 +116,6 @@ pub(super) fn force<R: Abort>(
     try_force(rt, class, call, j, moment).expect(rt, "a forced move")
 }
 
-/// HOT's tail goes to COLD in a full class, in room that was made.
-pub(super) fn force_reserved<R: Abort>(rt: &R, class: &mut ClassState, moment: u64) -> u64 {
-    class.reserve(1).expect(rt, "room");
-    assert!(rt; class.is_full());
-    let tail = class.from_tail(Seg::Hot, 0).expect(rt, "a tail").number;
-    let passed = Passed::of(&[]);
-    class.shift_reserved(
-        WHO,
-        tail,
-        Seg::Hot,
-        Seg::Cold,
-        Why::Forced,
-        moment,
-        passed,
-        0,
-    );
-    tail
-}
-
 /// The entry at a place from HOT's tail is found active.
 pub(super) fn wake<R: Abort>(rt: &R, class: &mut ClassState, call: Call, j: u64, moment: u64) -> u64
     ensures { class.new.rule ≡ class.old.rule }
@@ -180,18 +124,17 @@ pub(super) fn wake<R: Abort>(rt: &R, class: &mut ClassState, call: Call, j: u64,
     assert!(rt; j <= 4 && j < class.len(Seg::Hot));
     let number = class.from_tail(Seg::Hot, j).expect(rt, "an entry").number;
     let passed = class.passed(Seg::Hot, j);
-    class
-        .shift_from(
-            who,
-            number,
-            Seg::Hot,
-            Seg::Warm,
-            Why::Active,
-            moment,
-            passed,
-            at,
-        )
-        .expect(rt, "a move");
+    let shifted = Shifted {
+        who,
+        number,
+        from_seg: Seg::Hot,
+        to_seg: Seg::Warm,
+        why: Why::Active,
+        moment,
+        passed,
+        at,
+    };
+    class.shift(shifted).expect(rt, "a move");
     number
 }
 
@@ -208,19 +151,34 @@ pub(super) fn hit<R: Abort>(
     let (who, at) = (call.who, call.at);
     assert!(rt; class.segment_of(number) == Some(Seg::Cold));
     let passed = class.passed(Seg::Cold, 0);
-    class
-        .shift(who, number, Seg::Warm, Why::Hit, moment, passed, at)
-        .expect(rt, "a hit");
+    let shifted = Shifted {
+        who,
+        number,
+        from_seg: Seg::Cold,
+        to_seg: Seg::Warm,
+        why: Why::Hit,
+        moment,
+        passed,
+        at,
+    };
+    class.shift(shifted).expect(rt, "a hit");
     number
 }
 
 /// WARM's tail is found active.
 pub(super) fn keep_active<R: Abort>(rt: &R, class: &mut ClassState, moment: u64) -> u64 {
     let tail = class.from_tail(Seg::Warm, 0).expect(rt, "a tail").number;
-    let passed = Passed::of(&[]);
-    class
-        .shift(WHO, tail, Seg::Warm, Why::Active, moment, passed, 0)
-        .expect(rt, "a move");
+    let shifted = Shifted {
+        who: WHO,
+        number: tail,
+        from_seg: Seg::Warm,
+        to_seg: Seg::Warm,
+        why: Why::Active,
+        moment,
+        passed: Passed::of(&[]),
+        at: 0,
+    };
+    class.shift(shifted).expect(rt, "a move");
     tail
 }
 
@@ -238,29 +196,12 @@ pub(super) fn evict<R: Abort>(rt: &R, class: &mut ClassState, call: Call, j: u64
     number
 }
 
-/// COLD's tail is taken in a full class, in room that was made.
-pub(super) fn evict_reserved<R: Abort>(rt: &R, class: &mut ClassState) -> u64 {
-    class.reserve(1).expect(rt, "room");
-    assert!(rt; class.is_full());
-    let tail = class.from_tail(Seg::Cold, 0).expect(rt, "a tail").number;
-    class.evict_reserved(WHO, tail, Passed::of(&[]), 0);
-    tail
-}
-
 /// An entry goes with its item.
 pub(super) fn unlink<R: Abort>(rt: &R, class: &mut ClassState, who: Who, number: u64) -> u64
     ensures { class.new.rule ≡ class.old.rule }
 {
     assert!(rt; class.segment_of(number).is_some());
     class.unlink(who, number).expect(rt, "a removal");
-    number
-}
-
-/// An entry goes with its item, in room that was made.
-pub(super) fn unlink_reserved<R: Abort>(rt: &R, class: &mut ClassState, number: u64) -> u64 {
-    class.reserve(1).expect(rt, "room");
-    assert!(rt; class.segment_of(number).is_some());
-    class.unlink_reserved(WHO, number);
     number
 }
 
@@ -282,32 +223,12 @@ pub(super) fn reclaim<R: Abort>(
     number
 }
 
-/// An entry goes whose item is dead, in room that was made.
-pub(super) fn reclaim_reserved<R: Abort>(
-    rt: &R,
-    class: &mut ClassState,
-    number: u64,
-    moment: u64,
-) -> u64 {
-    class.reserve(1).expect(rt, "room");
-    assert!(rt; class.segment_of(number).is_some());
-    class.reclaim_reserved(WHO, number, moment, 0);
-    number
-}
-
 /// A full class has no chunk: the place of its event.
 pub(super) fn refuse<R: Abort>(rt: &R, class: &mut ClassState, who: Who) -> u64
     ensures { class.new.rule ≡ class.old.rule }
 {
     assert!(rt; class.is_full());
     class.refuse(who).expect(rt, "a refusal")
-}
-
-/// A full class has no chunk: the place of its event, in room that was made.
-pub(super) fn refuse_reserved<R: Abort>(rt: &R, class: &mut ClassState) -> u64 {
-    class.reserve(1).expect(rt, "room");
-    assert!(rt; class.is_full());
-    class.refuse_reserved(WHO)
 }
 
 // The test goes on where a class may have this limit of chunks.
@@ -326,23 +247,6 @@ pub(super) fn try_set_chunks<R: Abort>(
 ) -> Result<(), Fault> {
     asserts_limit(rt, chunks);
     class.set_chunks(who, chunks)
-}
-
-/// A new limit of chunks and a new entry of 66 bytes after one reservation; the number of the entry.
-pub(super) fn set_and_link<R: Abort>(
-    rt: &R,
-    alloc: Global,
-    class: &mut ClassState,
-    chunks: u64,
-    text: &str,
-) -> u64 {
-    asserts_limit(rt, chunks);
-    let key = key(rt, alloc, text.as_bytes());
-    let copy = copy_for(rt, alloc, class, &key);
-    class.reserve(2).expect(rt, "room");
-    class.set_chunks(WHO, chunks).expect(rt, "a limit");
-    assert!(rt; class.count() < class.chunks());
-    class.link_reserved(WHO, key, copy, 66, 1000, Expiry::Never)
 }
 
 /// New entries of one key until this many were linked: how many of them have the number that was next.

@@ -1,5 +1,5 @@
-//! Calls of a class where room was made, one after the other: lists, places and surveys were worked out by hand.
-use super::rows::Ask::{LinkTwo, Reserved, See, SetAndLink, SurveyReserved};
+//! Calls of a class after one reservation, one after the other: lists, places and surveys were worked out by hand.
+use super::rows::Ask::{Do, Reserve, See, SetChunks, Survey};
 use super::rows::Deed::{Evict, Force, Link, Reclaim, Refuse, Unlink};
 use super::rows::Sight::{Bytes, Count, Events, IsFull};
 use super::rows::{Row, Start, play};
@@ -8,20 +8,23 @@ use mc_item::Seg::Cold;
 use std::test::Fail;
 
 // Two entries fill the class, the older one is forced to COLD and taken, and the others go. By a new limit one entry fills it.
-static IN_ROOM: [Row; 15] = [
-    (LinkTwo("a", "b", 1000), "1"),
-    (Reserved(Refuse), "2"),
-    (Reserved(Force(1000)), "0"),
+static IN_ROOM: [Row; 18] = [
+    (Reserve(11), "Ok(())"),
+    (Do(Link("a", 66, 1000, Never)), "0"),
+    (Do(Link("b", 66, 1000, Never)), "1"),
+    (Do(Refuse), "2"),
+    (Do(Force(1000)), "0"),
     (See(Bytes(Cold)), "66"),
-    (SurveyReserved(1003), "[4, 132, 3]"),
-    (Reserved(Evict), "0"),
+    (Survey(1003), "[4, 132, 3]"),
+    (Do(Evict), "0"),
     (See(IsFull), "not full"),
-    (Reserved(Link("c", 70, 1004, Never)), "2"),
-    (Reserved(Unlink(1)), "1"),
-    (Reserved(Reclaim(2, 1005)), "2"),
+    (Do(Link("c", 70, 1004, Never)), "2"),
+    (Do(Unlink(1)), "1"),
+    (Do(Reclaim(2, 1005)), "2"),
     (See(Count), "0"),
     (See(Events), "9"),
-    (SetAndLink(1, "d"), "3"),
+    (SetChunks(1), "Ok(())"),
+    (Do(Link("d", 66, 1000, Never)), "3"),
     (See(IsFull), "full"),
     (See(Events), "11"),
 ];

@@ -1,9 +1,8 @@
 //! A test of a class is a list of rows: what is done or looked at, and what it tells.
 use super::class_lists::class_of;
 use super::deeds::{
-    Call, New, evict, evict_reserved, force, force_reserved, hit, keep_active, link, link_reserved,
-    link_two, link_until, reclaim, reclaim_reserved, refuse, refuse_reserved, set_and_link,
-    try_set_chunks, unlink, unlink_but, unlink_reserved,
+    Call, New, evict, force, hit, keep_active, link, link_until, reclaim, refuse, try_set_chunks,
+    unlink, unlink_but,
 };
 use super::{WHO, same};
 use mc_item::{Expiry, Fault, Key, Seg};
@@ -64,10 +63,6 @@ pub(super) enum Sight {
 #[derive(Clone, Copy)]
 pub(super) enum Ask {
     Do(Deed),
-    // The same in room that was made.
-    Reserved(Deed),
-    // Two new entries after one reservation, at this moment: the number of the second.
-    LinkTwo(&'static str, &'static str, u64),
     // An entry of COLD is hit at this moment.
     Hit(u64, u64),
     // WARM's tail is found active at this moment.
@@ -78,16 +73,12 @@ pub(super) enum Ask {
     UnlinkBut(u64, u64),
     // The survey at a moment: its place, its total and COLD's age; or the fault.
     Survey(u64),
-    // The same in room that was made.
-    SurveyReserved(u64),
     // So many surveys at the moment 1000.
     Surveys(u64),
     // Room for so many events.
     Reserve(usize),
     // A new limit of chunks.
     SetChunks(u64),
-    // The same, and a new entry, after one reservation: the number of the entry.
-    SetAndLink(u64, &'static str),
     See(Sight),
 }
 
@@ -144,11 +135,6 @@ fn text_of_survey<R: Abort>(rt: &R, alloc: Global, class: &mut ClassState, momen
         Ok(survey) => survey_text(rt, alloc, survey),
         Err(fault) => room_text(rt, alloc, Err(fault)),
     }
-}
-
-fn survey_reserved<R: Abort>(rt: &R, class: &mut ClassState, moment: u64) -> Survey {
-    class.reserve(1).expect(rt, "room");
-    class.survey_reserved(WHO, moment)
 }
 
 // How many of so many surveys at the moment 1000 have the next place and find nothing.
@@ -250,38 +236,14 @@ fn act<R: Abort>(rt: &R, alloc: Global, class: &mut ClassState, deed: Deed) -> u
     }
 }
 
-// The same in room that was made.
-fn act_reserved<R: Abort>(rt: &R, alloc: Global, class: &mut ClassState, deed: Deed) -> u64 {
-    match deed {
-        Deed::Link(text, cost, moment, expiry) => {
-            let key = text.as_bytes();
-            let new = New {
-                key,
-                cost,
-                moment,
-                expiry,
-            };
-            link_reserved(rt, alloc, class, new)
-        }
-        Deed::Force(moment) => force_reserved(rt, class, moment),
-        Deed::Evict => evict_reserved(rt, class),
-        Deed::Unlink(number) => unlink_reserved(rt, class, number),
-        Deed::Reclaim(number, moment) => reclaim_reserved(rt, class, number, moment),
-        Deed::Refuse => refuse_reserved(rt, class),
-    }
-}
-
 // What a row does that tells a number.
 fn answered_number<R: Abort>(rt: &R, alloc: Global, class: &mut ClassState, ask: Ask) -> u64 {
     match ask {
         Ask::Do(deed) => act(rt, alloc, class, deed),
-        Ask::Reserved(deed) => act_reserved(rt, alloc, class, deed),
-        Ask::LinkTwo(first, second, moment) => link_two(rt, alloc, class, first, second, moment),
         Ask::Hit(number, moment) => hit(rt, class, CALL, number, moment),
         Ask::KeepActive(moment) => keep_active(rt, class, moment),
         Ask::LinkUntil(count) => link_until(rt, alloc, class, count),
         Ask::UnlinkBut(until, kept) => unlink_but(rt, class, until, kept),
-        Ask::SetAndLink(chunks, text) => set_and_link(rt, alloc, class, chunks, text),
         _ => 0,
     }
 }
@@ -290,7 +252,6 @@ fn answered_number<R: Abort>(rt: &R, alloc: Global, class: &mut ClassState, ask:
 fn tell<R: Abort>(rt: &R, alloc: Global, class: &mut ClassState, ask: Ask) -> String {
     match ask {
         Ask::Survey(moment) => text_of_survey(rt, alloc, class, moment),
-        Ask::SurveyReserved(moment) => survey_text(rt, alloc, survey_reserved(rt, class, moment)),
         Ask::Surveys(surveys) => text_of_surveys(rt, alloc, class, surveys),
         Ask::Reserve(events) => room_text(rt, alloc, class.reserve(events)),
         Ask::SetChunks(chunks) => room_text(rt, alloc, try_set_chunks(rt, class, WHO, chunks)),

@@ -3,6 +3,7 @@ ghost use Rattle.std.specs.Prelude.{◌≤◌};
 
 use super::plain_lists::{Lists, Piece, Shares};
 use mc_item::{Command, Config, Seg, Verb};
+use mc_segment::EntryKey;
 use mc_testing::{Dice, WHO, World, ask, key, one_class, opened, storage};
 use std::alloc::Global;
 use std::random::RandomSource;
@@ -147,7 +148,7 @@ fn link(world: &mut World, letter: u8, cost: u64, moment: u64) -> Result<(), Fai
         return Err(Fail::from("the class is full"));
     }
     let copy = Some(key.copy(alloc)?);
-    class.link(WHO, key, copy, cost, moment, expiry)?;
+    class.link(WHO, EntryKey { key, copy }, cost, moment, expiry)?;
     Ok(())
 }
 

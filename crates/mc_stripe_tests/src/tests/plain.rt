@@ -6,10 +6,10 @@ use super::noted::reply_in;
 use super::plain_answers::{answer, need};
 use mc_history::History;
 use mc_item::{
-    Change, ClassNo, Command, Did, Expiry, Item, Marks, Need, Reply, Room, StripeEvent, Value, Who,
-    cost,
+    Change, ClassNo, Command, Did, Expiry, Item, Making, Marks, Need, Reply, Room, StripeEvent,
+    Value, cost,
 };
-use mc_stripe::{Classes, Fate, Given, ShownStripe, StripeState};
+use mc_stripe::{Classes, Fate, Given, ShownStripe, StripeState, Turn};
 use std::alloc::Global;
 use std::process::Abort;
 
@@ -183,17 +183,20 @@ pub(super) fn by_table<R: Abort>(
     rt: &R,
     alloc: Global,
     stripe: &StripeState,
-    who: Who,
     command: Command,
-    moment: u64,
+    turn: Turn,
     given: Given,
 ) -> Plain
-    requires { moment ≤ 2 ^ 62 }
+    requires { turn.moment ≤ 2 ^ 62 }
 {
-    let versions = version_count(rt, alloc, stripe.history());
+    let Turn { who, moment } = turn;
+    let making = Making {
+        alloc,
+        versions: version_count(rt, alloc, stripe.history()),
+    };
     let room = taken(need_of(stripe, &command), given);
     let found = stripe.find(command.key());
-    let answer = answer(rt, alloc, versions, found, &command, moment, room);
+    let answer = answer(rt, making, found, &command, moment, room);
     let fate = fate_of(found, &answer.change);
     let item = left(rt, found, answer.change);
     let left = item_text(rt, alloc, item.as_ref());

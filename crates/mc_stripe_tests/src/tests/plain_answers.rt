@@ -2,8 +2,8 @@
 ghost use Rattle.std.specs.Prelude.{◌≡◌, ◌≤◌, ◌^◌};
 
 use mc_item::{
-    Answer, Change, ClassSizes, Command, Content, Expiry, Item, Key, Marks, Need, Reply, Room,
-    Site, Step, Value, Verb, cost, expiry_of,
+    Answer, Change, ClassSizes, Command, Content, Expiry, Item, Key, Making, Marks, Need, Offer,
+    Reply, Room, Site, Step, Value, Verb, cost, expiry_of,
 };
 use std::alloc::Global;
 use std::process::Abort;
@@ -215,16 +215,16 @@ fn stored(versions: u64, verb: Verb, written: Written, room: Room) -> Answer
 /// The answer to a command after so many versions, where its key's item is `found`.
 pub(super) fn answer<R: Abort>(
     rt: &R,
-    alloc: Global,
-    versions: u64,
+    making: Making,
     found: Option<&Item>,
     command: &Command,
     moment: u64,
     room: Room,
 ) -> Answer
-    requires few { versions ≤ 16 }
+    requires few { making.versions ≤ 16 }
     requires moment { moment ≤ 2 ^ 62 }
 {
+    let offer = Offer { class: None, room };
     match command {
         Command::Get(_) => get_answer(rt, found),
         Command::Gat(_, exptime) => gat_answer(rt, expiry_of(*exptime, moment), found),
@@ -243,8 +243,8 @@ pub(super) fn answer<R: Abort>(
             match (need(found, command), declined(*verb, found)) {
                 (Need::TooLarge, _) => refused(*verb, Reply::TooLarge),
                 (_, None) => {
-                    let written = write_over(rt, alloc, *verb, &content, found);
-                    stored(versions, *verb, written, room)
+                    let written = write_over(rt, making.alloc, *verb, &content, found);
+                    stored(making.versions, *verb, written, room)
                 }
                 (_, Some(reply)) => Answer {
                     reply,
@@ -254,10 +254,10 @@ pub(super) fn answer<R: Abort>(
         }
         Command::Huge { verb, .. } => refused(*verb, Reply::TooLarge),
         Command::Incr(key, delta) => site()
-            .count_answer(alloc, versions, key, Step::Up(*delta), found, None, room)
+            .count_answer(making, key, Step::Up(*delta), found, offer)
             .expect(rt, "an answer"),
         Command::Decr(key, delta) => site()
-            .count_answer(alloc, versions, key, Step::Down(*delta), found, None, room)
+            .count_answer(making, key, Step::Down(*delta), found, offer)
             .expect(rt, "an answer"),
         Command::Touch(_, exptime) => touch_answer(expiry_of(*exptime, moment), found),
         Command::Delete(_) => delete_answer(found),

@@ -202,9 +202,10 @@ pub(super) fn text_of_try<R: Abort>(
     asserts_owned(rt, stripe, &command, moment);
     assert!(rt; may_give(given, stripe.history()));
     let same = command_of(rt, alloc, asked);
-    let plain = by_table(rt, alloc, stripe, who, same, moment, given);
+    let turn = Turn { who, moment };
+    let plain = by_table(rt, alloc, stripe, same, turn, given);
     let before = texts_of(rt, alloc, stripe);
-    let got = stripe.attempt(&command, Turn { who, moment }, &given);
+    let got = stripe.attempt(&command, turn, &given);
     let now = texts_of(rt, alloc, stripe);
     check_try(rt, alloc, &before, &now, &plain, &got);
     got

@@ -1,8 +1,11 @@
-use Rattle.std.proofs.Common.{◌≡◌, ◌∷◌, ◌∙◌, arith, sym}
+use Rattle.std.proofs.Common.{◌≡◌, ◌∷◌, ◌∙◌, ℤ, arith, ap, sym}
+use Rattle.std.proofs.lemmas.Int.{to_z_pos}
 use Rattle.std.specs.Prelude.{Some, pos}
-use Rattle.mc_proto.specs.Lines.{tokens, key_of_token}
+use Rattle.mc_proto.specs.Lines.{tokens, key_of_token, exptime}
 use Rattle.mc_proto.proofs.OnePassLineLemmas.{quiet_tokens, number_within, store_line_says}
 use Rattle.mc_proto.proofs.quick.quick_store.Goals as goal
+use mir.Syntax.{w64}
+use mir.Val.{to_z}
 
 pub returns-clause-value : goal.returns-clause-value
 returns-clause-value c =
@@ -13,9 +16,11 @@ returns-clause-value c =
     let n = c.in-Some-next_number-3 in
     let q = c.in-Some-quiet_end in
     let key : key_of_token k.token.now ≡ Some c.in-Some-2.key = sym c.in_ok-key.ensures ∙ c.in-Some-2.is in
+    let cast : to_z w64 e.exptime ≡ pos e.exptime = to_z_pos w64 e.exptime (omega (arith, e.ensures.4)) in
+    let new : exptime e.ensures.0 ≡ Some (to_z w64 e.exptime) = e.ensures.3 ∙ ap (λ (x : ℤ). Some x) (sym cast) in
     let behind : tokens v.rest.now ≡ k.token.now ∷ f.ensures.0 ∷ e.ensures.0 ∷ n.ensures.0 ∷ quiet_tokens q.quiet = cc (k.ensures.0, f.ensures.1, e.ensures.1, n.ensures.1, q.ensures) in
-    c.begun_store.ensures.value
-    ∙ sym (store_line_says c.args.limits v.verb c.args.line.now v.rest.now c.in-Some-2.key k.token.now f.ensures.0 e.ensures.0 n.ensures.0 f.flags n.count (pos e.exptime) q.quiet v.ensures behind key
+    c.begun.ensures.value
+    ∙ sym (store_line_says c.args.limits v.verb c.args.line.now v.rest.now c.in-Some-2.key k.token.now f.ensures.0 e.ensures.0 n.ensures.0 f.flags n.count (to_z w64 e.exptime) q.quiet v.ensures behind key
     (number_within 4294967295 f.flags f.ensures.0 f.ensures.2 (omega (arith, c.if-flags-gt-MAX_FLAGS.false)))
-    e.ensures.3
+    new
     (number_within 2147483645 n.count n.ensures.0 n.ensures.2 (omega (arith, c.if-count-gt-MAX_BYTES.false))))

@@ -1,7 +1,6 @@
 use Rattle.std.proofs.Common.{◌≡◌, subst, sym, ap, ◌∙◌, List, ℕ}
-use Rattle.std.specs.Prelude.{IsSomeAnd}
 use Rattle.mc_item.specs.declared.{class_event.Why.Why, lists.Seg.TheVariants.Cold}
-use Rattle.mc_rule.specs.{Lists.lists_of, Lists.segment_of, Segment.Rule}
+use Rattle.mc_rule.specs.{Lists.lists_of, Segment.Rule}
 use Rattle.mc_segment.specs.ClassCalls.{shifted_event, MayCome}
 use Rattle.mc_stripe.specs.StripeState.{cache_now}
 use Rattle.mc_pull.specs.declared.judge.Judge.{Judge}
@@ -20,7 +19,7 @@ shift-requires c =
     let made = subst (λ (j : Judge). done_of v cache (question ask.who ask.number j ask.moment) ≡ done.ToCold) judge c.requires.done in
     let seg = c.law.ensures.lists c.args.seg ask.number may.listed in
     let at = c.len-at.result in
-    let P : Why → List ℕ → Type 0 = λ why passed. IsSomeAnd (segment_of ask.number (lists_of v.history)) (λ from_seg. MayCome v (shifted_event ask.who ask.number Cold why ask.moment passed at from_seg)) in
+    let P : Why → List ℕ → Type 0 = λ why passed. MayCome v (shifted_event ask.who ask.number Cold why ask.moment passed at c.args.seg) in
     let why_is = c.cold_why-why.ensures ∙ ap (λ (r : Rule). cold_why r (lists_of v.history) c.args.seg c.args.mode) (sym c.requires.asked.class.rule) in
     let move = cold_may v ask.who ask.number ask.moment c.args.passed.now at cache c.args.seg c.args.mode seg may made in
     subst (λ (why : Why). P why c.of.result) (sym why_is)

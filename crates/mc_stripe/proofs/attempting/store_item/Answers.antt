@@ -10,16 +10,16 @@ pub returns-in-Some-clause-made : goal.returns-in-Some-clause-made
 returns-in-Some-clause-made c =
     let own = content_of c.args.content.now.flags c.args.content.now.value.now c.args.content.now.expiry in
     let items = get (pointwise nat_eq) c.args.items.now in
-    let row_is = joins_row c.args.site.now c.args.versions c.args.key.now own c.args.verb (items c.args.key.now) c.in-Some.side (sym c.in-Some.ensures) in
-    let made = λ (r : Row). IfOk c.join_item.result (λ t. IfOk t (MakesRow true c.args.given.now items (get (pointwise nat_eq) c.join_item.new.items) c.args.key.now r c.args.moment)) in
+    let row_is = joins_row c.args.trial.site.now c.args.trial.versions c.args.key.now own c.args.verb (items c.args.key.now) c.in-Some.side (sym c.in-Some.ensures) in
+    let made = λ (r : Row). IfOk c.join_item.result (λ t. IfOk t (MakesRow true c.args.trial.given.now items (get (pointwise nat_eq) c.join_item.new.items) c.args.key.now r c.args.trial.moment)) in
     subst made (sym row_is) c.join_item.ensures.made
 
 pub returns-in-Some-clause-wants : goal.returns-in-Some-clause-wants
 returns-in-Some-clause-wants c =
     let own = content_of c.args.content.now.flags c.args.content.now.value.now c.args.content.now.expiry in
     let items = get (pointwise nat_eq) c.args.items.now in
-    let row_is = joins_row c.args.site.now c.args.versions c.args.key.now own c.args.verb (items c.args.key.now) c.in-Some.side (sym c.in-Some.ensures) in
-    let left = λ (r : Row). IfOk c.join_item.result (λ t. IfErr t (IsLeft c.args.given.now items (get (pointwise nat_eq) c.join_item.new.items) c.args.key.now c.args.moment r)) in
+    let row_is = joins_row c.args.trial.site.now c.args.trial.versions c.args.key.now own c.args.verb (items c.args.key.now) c.in-Some.side (sym c.in-Some.ensures) in
+    let left = λ (r : Row). IfOk c.join_item.result (λ t. IfErr t (IsLeft c.args.trial.given.now items (get (pointwise nat_eq) c.join_item.new.items) c.args.key.now c.args.trial.moment r)) in
     subst left (sym row_is) c.join_item.ensures.wants
 
 pub returns-in-Some-class_of-clause-made : goal.returns-in-Some-class_of-clause-made
@@ -27,9 +27,9 @@ returns-in-Some-class_of-clause-made c =
     let own = content_of c.args.content.now.flags c.args.content.now.value.now c.args.content.now.expiry in
     let items = get (pointwise nat_eq) c.args.items.now in
     let cost_is : c.cost-cost.result ≡ cost_of c.args.key.now own.value = search rules in
-    let class_is = c.in-Some-class_of.ensures.value ∙ ap (class_of c.args.site.now.sizes) cost_is in
-    let row_is = fits_row c.args.site.now c.args.versions c.args.key.now own c.args.verb (items c.args.key.now) c.in-Some-class_of.fresh (sym c.in-None.ensures) (sym class_is) in
-    let made = λ (r : Row). IfOk c.put_item.result (λ t. IfOk t (MakesRow true c.args.given.now items (get (pointwise nat_eq) c.put_item.new.items) c.args.key.now r c.args.moment)) in
+    let class_is = c.in-Some-class_of.ensures.value ∙ ap (class_of c.args.trial.site.now.sizes) cost_is in
+    let row_is = fits_row c.args.trial.site.now c.args.trial.versions c.args.key.now own c.args.verb (items c.args.key.now) c.in-Some-class_of.class (sym c.in-None.ensures) (sym class_is) in
+    let made = λ (r : Row). IfOk c.put_item.result (λ t. IfOk t (MakesRow true c.args.trial.given.now items (get (pointwise nat_eq) c.put_item.new.items) c.args.key.now r c.args.trial.moment)) in
     subst made (sym row_is) c.put_item.ensures.made
 
 pub returns-in-Some-class_of-clause-wants : goal.returns-in-Some-class_of-clause-wants
@@ -37,7 +37,7 @@ returns-in-Some-class_of-clause-wants c =
     let own = content_of c.args.content.now.flags c.args.content.now.value.now c.args.content.now.expiry in
     let items = get (pointwise nat_eq) c.args.items.now in
     let cost_is : c.cost-cost.result ≡ cost_of c.args.key.now own.value = search rules in
-    let class_is = c.in-Some-class_of.ensures.value ∙ ap (class_of c.args.site.now.sizes) cost_is in
-    let row_is = fits_row c.args.site.now c.args.versions c.args.key.now own c.args.verb (items c.args.key.now) c.in-Some-class_of.fresh (sym c.in-None.ensures) (sym class_is) in
-    let left = λ (r : Row). IfOk c.put_item.result (λ t. IfErr t (IsLeft c.args.given.now items (get (pointwise nat_eq) c.put_item.new.items) c.args.key.now c.args.moment r)) in
+    let class_is = c.in-Some-class_of.ensures.value ∙ ap (class_of c.args.trial.site.now.sizes) cost_is in
+    let row_is = fits_row c.args.trial.site.now c.args.trial.versions c.args.key.now own c.args.verb (items c.args.key.now) c.in-Some-class_of.class (sym c.in-None.ensures) (sym class_is) in
+    let left = λ (r : Row). IfOk c.put_item.result (λ t. IfErr t (IsLeft c.args.trial.given.now items (get (pointwise nat_eq) c.put_item.new.items) c.args.key.now c.args.trial.moment r)) in
     subst left (sym row_is) c.put_item.ensures.wants

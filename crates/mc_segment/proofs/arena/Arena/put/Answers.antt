@@ -16,10 +16,10 @@ put_is c =
     let next : c.self.inside.next ≡ c.args.self.now.next = ap (λ (v : Held). v.next) c.self.view_is in
     let heads : c.set.new.self ≡ with_ends h s (pushed_ends (ends_of h s) e.number e.cost) = c.set.ensures ∙ ap (with_ends h s) (c.pushed.ensures ∙ ap (λ (x : Ends). pushed_ends x e.number e.cost) ends) in
     subst (λ (v : Heads). IsArena (slot c.fill.new.slots) c.self.inside.next v (linked s e c.args.self.now.lists)) (sym heads)
-    (put_arena _ _ h _ (seen c.self.inside.slots _ _ _ c.self.view_is c.self.invariant) (slot c.fill.new.slots) s e c.requires.absent
-    (omega (arith, c.requires.inside, next))
-    (omega (arith, c.requires.count, next))
-    (omega (arith, c.requires.cost, next))
+    (put_arena _ _ h _ (seen c.self.inside.slots _ _ _ c.self.view_is c.self.invariant) (slot c.fill.new.slots) s e c.requires.may.absent
+    (omega (arith, c.requires.may.inside, next))
+    (omega (arith, c.requires.may.count, next))
+    (omega (arith, c.requires.may.cost_fits, next))
     (λ q. c.fill.ensures.slots q
     ∙ (ap (λ (o : Option Listed). if e.number == q then Some (record { seg = s; node = node e None c.of-ends.result.newest }) else o) (c.set_newer.ensures.slots q)
     ∙ ap (λ (x : Ends). if e.number == q then Some (record { seg = s; node = node e None x.newest }) else place_newer x.newest (Some e.number) q (slot xs q)) ends)))

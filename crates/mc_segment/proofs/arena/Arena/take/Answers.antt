@@ -64,33 +64,31 @@ pub returns-clause-gone : goal.returns-clause-gone
 returns-clause-gone c =
     ap (found c.args.number) (whole _ _ _ _ (took c)) ∙ (found_is _ _ _ _ (took c) c.args.number ∙ ap named (emptied c.args.number _ _ _ _ (relinked c c.args.number)))
 
-pub returns-clause-sums : goal.returns-clause-sums
-returns-clause-sums c =
+pub returns-clause-taken : goal.returns-clause-taken
+returns-clause-taken c =
+    let n = c.args.number in
     let a = seen c.self.inside.slots _ _ _ c.self.view_is c.self.invariant in
     let is = sym c.in_ok-place.ensures.place in
-    let sums = taken_sums _ _ _ _ a c.args.number _ is in
+    let sums = taken_sums _ _ _ _ a n _ is in
     let same = whole _ _ _ _ (took c) in
-    let inside = slot_below _ _ _ _ a c.args.number _ is in (
-      number_is _ _ _ _ a c.args.number _ is,
-      omega (arith, inside, ap (λ (v : Held). v.next) c.self.view_is),
-      omega (arith, sums, ap count_of same),
-      omega (arith, sums, ap all_bytes same),
-    )
+    let below = slot_below _ _ _ _ a n _ is in
+    let next = ap (λ (v : Held). v.next) c.self.view_is in
+    record {
+      there = find_here _ _ _ _ a n _ is;
+      left = unlinked_is _ _ _ _ a n _ is;
+      number_is = number_is _ _ _ _ a n _ is;
+      inside = omega (arith, below, next);
+      count = omega (arith, sums, ap count_of same);
+      bytes = omega (arith, sums, ap all_bytes same);
+      may_put = record {
+        absent = returns-clause-gone c;
+        inside = below;
+        count = omega (arith, sums, ap count_of same, a.count);
+        cost_fits = omega (arith, sums, ap all_bytes same, a.bytes);
+      };
+    }
 
 pub returns-clause-slot : goal.returns-clause-slot
 returns-clause-slot c =
     let n = c.args.number in
     λ kept. c.set_newer.ensures.shape.slots n ∙ (c.set_older.ensures.shape.slots n ∙ ((c.empty.ensures.shape kept).slots n ∙ has_place c.self.inside.slots n _ (sym c.in_ok-place.ensures.place)))
-
-pub returns-clause-fits : goal.returns-clause-fits
-returns-clause-fits c =
-    let a = seen c.self.inside.slots _ _ _ c.self.view_is c.self.invariant in
-    let sums = taken_sums _ _ _ _ a c.args.number _ (sym c.in_ok-place.ensures.place) in
-    let same = whole _ _ _ _ (took c) in
-    (omega (arith, sums, ap count_of same, a.count), omega (arith, sums, ap all_bytes same, a.bytes))
-
-pub returns-clause-there : goal.returns-clause-there
-returns-clause-there c = find_here _ _ _ _ (seen c.self.inside.slots _ _ _ c.self.view_is c.self.invariant) c.args.number _ (sym c.in_ok-place.ensures.place)
-
-pub returns-clause-left : goal.returns-clause-left
-returns-clause-left c = unlinked_is _ _ _ _ (seen c.self.inside.slots _ _ _ c.self.view_is c.self.invariant) c.args.number _ (sym c.in_ok-place.ensures.place)

@@ -9,7 +9,7 @@ invariant_of-self-2 c =
     let now = c.remove in
     let place : HasPlaces c.args.self.now 1 = search rules in
     keeps _ _ _ _ _ _ _ _ _ c.self.invariant c.self.view_is now.new.self _ _ c.args.event (search rules)
-    (now.ensures.lists ∙ (ap (unlinked c.args.number) (seen_lists _ _ _ _ _ _ _ _ _ c.self.invariant c.self.view_is) ∙ sym c.requires.leaves))
-    (omega (arith, now.ensures.same, c.requires.links)) (sym (c.requires.limits _)) place
-    (λ q below. c.requires.names q ∙ not_to_come c.args.number c.self.inside.lists.next q now.ensures.inside (omega (arith, now.ensures.same, below)))
+    (now.ensures.lists ∙ (ap (unlinked c.args.number) (seen_lists _ _ _ _ _ _ _ _ _ c.self.invariant c.self.view_is) ∙ sym c.requires.leaves.lists))
+    (omega (arith, now.ensures.same, c.requires.leaves.links)) (sym (c.requires.leaves.limits _)) place
+    (λ q below. c.requires.leaves.names q ∙ not_to_come c.args.number c.self.inside.lists.next q now.ensures.inside (omega (arith, now.ensures.same, below)))
     c.requires.lawful

@@ -12,8 +12,8 @@ pub invariant_of-self-2 : goal.invariant_of-self-2
 invariant_of-self-2 c =
     let place : HasPlaces c.args.self.now 1 = search rules in
     keeps _ _ _ _ _ _ _ _ _ c.self.invariant c.self.view_is c.self.inside.lists _ _ c.args.event (more c)
-    (seen_lists _ _ _ _ _ _ _ _ _ c.self.invariant c.self.view_is ∙ sym c.requires.stays)
-    (omega (arith, c.requires.links)) (sym (c.requires.limits _)) place (λ q below. c.requires.names q) c.requires.lawful
+    (seen_lists _ _ _ _ _ _ _ _ _ c.self.invariant c.self.view_is ∙ sym c.requires.stays.lists)
+    (omega (arith, c.requires.stays.links)) (sym (c.requires.stays.limits _)) place (λ q below. c.requires.stays.names q) c.requires.lawful
 
 pub returns-clause-noted : goal.returns-clause-noted
 returns-clause-noted c =

@@ -31,7 +31,7 @@ invariant_of-self-2 c =
     tried_kept c.args.given.now site c.self.inside.limit c.self.inside.versions made.added before c.push_answer.new.history.items items items (get (pointwise nat_eq) c.make.new.items)
     c.args.turn.who command key c.args.turn.moment row made.done.room made.done.reply made.done.fate
     c.self.invariant few (λ q. refl) refl
-    (subst (λ (x : Stripe). stripe_of key x.site.stripes ≡ record { 0 = x.site.stripe }) back c.requires.stripe)
+    (subst (λ (x : Stripe). stripe_of key x.site.stripes ≡ record { 0 = x.site.stripe }) back c.requires.may.stripe)
     refl makes.made_is (taken_fits c.args.given.now row.need made.done.room before offers makes.made_is.uses.taken) makes.added
     (c.push_answer.ensures.items ∙ ap (λ (h : List StripeEvent). h ++ did_of c.args.turn.who command c.args.turn.moment made.done.reply made.done.room ∷ []) c.reserve.ensures.items)
 
