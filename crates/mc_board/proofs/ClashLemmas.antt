@@ -13,7 +13,7 @@ use Rattle.mc_board.proofs.RuleLemmas.{Law, ledger}
 clashes : (counts : Counts) (id other : ℕ) (mine theirs : Owned) (both : View) → mine.lock ≡ theirs.lock
     → Joins (Law counts) id (views.Owner mine) other (views.Owner theirs) both views.Spent
 clashes counts id other mine theirs both same s k at apart there =
-    let l = ledger counts s.words k.history k.stage k.owner in
+    let l = ledger counts s.words k.history k.stage k.owner k.made in
     let first : IsOwner l id mine = k.known id (views.Owner mine) at in
     let second : IsOwner l other theirs = ⊎_elim
     (λ (t : (other ≡ id) × (both ≡ views.Owner theirs)). absurd (apart t.0))
@@ -31,7 +31,7 @@ clashes_as counts id other v w both is also same =
 -- no seat has that view
 never : (counts : Counts) (slots id word : ℕ) → Allows (Law counts) slots id (no_view, []) word (λ n. n) (NeverHappens (step slots word 0 0 none) (no_view, []))
 never counts slots id word s k homes at fits =
-    let mine : IsOwner (ledger counts s.words k.history k.stage k.owner) id (owned_of no_view) = k.known id no_view at in
+    let mine : IsOwner (ledger counts s.words k.history k.stage k.owner k.made) id (owned_of no_view) = k.known id no_view at in
     absurd (omega (arith, mine.word))
 
 -- the same of a seat that is known to have it

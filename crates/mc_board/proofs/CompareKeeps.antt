@@ -4,17 +4,18 @@ use Rattle.std.specs.Prelude.{slice_index}
 use mathlib.Core.Option.{none}
 use Rattle.atomic_table.specs.Table.{State, Me, step, keeps, Allows}
 use Rattle.mc_item.specs.declared.event.Event.{Event}
-use Rattle.mc_board.specs.declared.{rule.Counts.Counts, rule.Note.Note, rule.Owned.Owned, rule.Known.Known, rule.View.View}
+use Rattle.mc_board.specs.declared.{rule.Counts.Counts, rule.Note.Note, rule.Owned.Owned, rule.Known.Known, rule.Span.Span, rule.View.View}
 use Rattle.mc_board.specs.declared.rule.View.TheVariants as views
+use Rattle.mc_board.specs.Accounts.{first_caller, IsAccount}
 use Rattle.mc_board.specs.Histories.{list_at, IsAhead, IsBehind, IsNoteOf}
 use Rattle.mc_board.specs.{Board.IsOwner, Board.IsToken, Board.Knows, Board.IsGrowing, Steps.Compared, Steps.Met}
-use Rattle.mc_board.proofs.{PrefixLemmas.prefix_either, PrefixLemmas.set_back, RuleLemmas.Law, RuleLemmas.ledger, RuleLemmas.known_set}
+use Rattle.mc_board.proofs.{AccountLemmas.IsAccount-behind, PrefixLemmas.prefix_either, PrefixLemmas.set_back, RuleLemmas.Law, RuleLemmas.ledger, RuleLemmas.known_set}
 use Rattle.std.proofs.lemmas.List.Elements.{All-weaker}
 use Rattle.mc_board.specs.declared.rule.Sight.{Sight}
 
 -- the words stand as they were, and one view is changed
 pub viewed : (counts : Counts) (s : State Unit View) (k : Law counts s) (id word : ℕ) (w : View)
-    → Knows (ledger counts s.words k.history k.stage k.owner) id w
+    → Knows (ledger counts s.words k.history k.stage k.owner k.made) id w
     → IsGrowing counts (set s.words word (slice_index s.words word)) (set s.views id w)
 viewed counts s k id word w mine =
     subst (λ (ws : List ℕ). IsGrowing counts ws (set s.views id w)) (sym (set_back s.words word))
@@ -22,9 +23,11 @@ viewed counts s k id word w mine =
       history = k.history;
       stage = k.stage;
       owner = k.owner;
+      made = k.made;
       wide = k.wide;
       written = k.written;
-      known = known_set (ledger counts s.words k.history k.stage k.owner) s.views id w (λ j u apart e. k.known j u e) mine;
+      accounts = k.accounts;
+      known = known_set (ledger counts s.words k.history k.stage k.owner k.made) s.views id w (λ j u apart e. k.known j u e) mine;
     })
 
 -- a sight that is behind all histories has a lock's history ahead of it
@@ -40,18 +43,25 @@ IsAhead-behind h s lock b =
 compares : (counts : Counts) (slots id word : ℕ) (owned : Owned)
     → Allows (Law counts) slots id (views.Owner owned, []) word (λ n. n) (Compared (step slots word 0 0 none) (views.Owner owned, []))
 compares counts slots id word owned s k homes at fits =
-    let mine : IsOwner (ledger counts s.words k.history k.stage k.owner) id owned = k.known id (views.Owner owned) at in (
+    let mine : IsOwner (ledger counts s.words k.history k.stage k.owner k.made) id owned = k.known id (views.Owner owned) at in (
       views.Owner owned,
       keeps,
       tt,
       viewed counts s k id word (views.Owner owned) mine,
-      (refl, subst (λ (h : List Event). IsAhead h owned.told owned.lock) (sym mine.history) (IsAhead-behind k.history owned.told owned.lock mine.told)),
+      (
+        refl,
+        (
+          subst (λ (h : List Event). IsAhead h owned.told owned.lock) (sym mine.history) (IsAhead-behind k.history owned.told owned.lock mine.told),
+          subst (λ (x : ℕ × List Span). IsAccount x.0 owned.lock x.1 (list_at owned.told.seen)) (λ i. (sym mine.first i, sym mine.made i))
+              (IsAccount-behind (first_caller counts) owned.lock (k.made owned.lock) (list_at owned.told.seen) k.history mine.told.seen (k.accounts owned.lock)),
+        ),
+      ),
     )
 
 meets : (counts : Counts) (slots id word : ℕ) (known : Known)
     → Allows (Law counts) slots id (views.Seen known, []) word (λ n. n) (Met (step slots word 0 0 none) (views.Seen known, []))
 meets counts slots id word known s k homes at fits =
-    let mine : IsToken (ledger counts s.words k.history k.stage k.owner) known = k.known id (views.Seen known) at in (
+    let mine : IsToken (ledger counts s.words k.history k.stage k.owner k.made) known = k.known id (views.Seen known) at in (
       views.Seen known,
       keeps,
       tt,

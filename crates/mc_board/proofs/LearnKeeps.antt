@@ -69,7 +69,7 @@ grows_theirs h s t a b =
 learns : (counts : Counts) (slots id word : ℕ) (known : Known)
     → Allows (Law counts) slots id (views.Seen known, []) word (λ n. n) (Learned (step slots word 0 0 none) (views.Seen known, []))
 learns counts slots id word known s k homes at fits =
-    let mine : IsToken (ledger counts s.words k.history k.stage k.owner) known = k.known id (views.Seen known) at in
+    let mine : IsToken (ledger counts s.words k.history k.stage k.owner k.made) known = k.known id (views.Seen known) at in
     let w = views.Seen (known_learned known) in (
       w,
       keeps,

@@ -1,5 +1,6 @@
 pub mod FigureLemmas
 pub mod PrefixLemmas
+pub mod AccountLemmas
 pub mod SeenLemmas
 pub mod RuleLemmas
 pub mod WordLemmas

@@ -38,7 +38,7 @@ opens_look : (counts : Counts) (slots id lock : ℕ) (known : Known) → lock < 
     → Allows (Law counts) slots id (views.Seen known, []) (first_word counts lock) (λ n. n) (Opened lock (step slots (first_word counts lock) 0 0 none) (views.Seen known, []))
 opens_look counts slots id lock known below s k homes at fits =
     let found : ℕ = slice_index s.words (first_word counts lock) in
-    let l = ledger counts s.words k.history k.stage k.owner in
+    let l = ledger counts s.words k.history k.stage k.owner k.made in
     let mine : IsToken l known = k.known id (views.Seen known) at in
     let len : found / 2 ≡ length (k.history lock) = half found (length (k.history lock)) (k.stage lock) (k.written lock below).count in
     let seen = prefix_length (list_at known.sight.seen lock) (k.history lock) (mine.sight.seen lock) in
@@ -56,7 +56,7 @@ reads : (counts : Counts) (slots id word : ℕ) (known : Known) (r : Reading) �
     → Allows (Law counts) slots id (views.Seen known, []) word (λ n. n) (Read (step slots word 0 0 none) (views.Seen known, []))
 reads counts slots id word known r look place few s k homes at fits =
     let found : ℕ = slice_index s.words word in
-    let l = ledger counts s.words k.history k.stage k.owner in
+    let l = ledger counts s.words k.history k.stage k.owner k.made in
     let mine : IsToken l known = k.known id (views.Seen known) at in
     let reading : IsReading l r = subst (Reads l) look mine.look in
     let w = views.Seen (record known { look = look_after found known.look }) in
@@ -80,7 +80,7 @@ reads counts slots id word known r look place few s k homes at fits =
 
 -- what was read are figures of the history, if the first word is still the even number that was found first
 noted_here : (counts : Counts) (s : State Unit View) (k : Law counts s) (sight : Sight) (r : Reading) → r.at % 2 ≡ 0 → length r.got ≡ 8 → r.at ≡ slice_index s.words (first_word counts r.lock)
-    → IsBehind k.history sight → IsReading (ledger counts s.words k.history k.stage k.owner) r
+    → IsBehind k.history sight → IsReading (ledger counts s.words k.history k.stage k.owner k.made) r
     → IsBehind k.history (with_figures sight (record { lock = r.lock; events = r.at / 2; values = r.got }))
 noted_here counts s k sight r even eight same behind reading =
     let h = k.history r.lock in
@@ -96,7 +96,7 @@ checks : (counts : Counts) (slots id : ℕ) (known : Known) (r : Reading) → kn
     → Allows (Law counts) slots id (views.Seen known, []) (first_word counts r.lock) (λ n. n) (Checked (step slots (first_word counts r.lock) 0 0 none) (views.Seen known, []))
 checks counts slots id known r look even eight s k homes at fits =
     let found : ℕ = slice_index s.words (first_word counts r.lock) in
-    let l = ledger counts s.words k.history k.stage k.owner in
+    let l = ledger counts s.words k.history k.stage k.owner k.made in
     let mine : IsToken l known = k.known id (views.Seen known) at in
     let reading : IsReading l r = subst (Reads l) look mine.look in
     let len : found / 2 ≡ length (k.history r.lock) = half found (length (k.history r.lock)) (k.stage r.lock) (k.written r.lock reading.lock).count in

@@ -8,7 +8,7 @@ use lib.ListN.{get_elem?}
 use Rattle.atomic_table.specs.Table.{State}
 use Rattle.atomic_table.proofs.Lists.{at_set}
 use Rattle.mc_item.specs.declared.event.Event.{Event}
-use Rattle.mc_board.specs.declared.{rule.Counts.Counts, rule.Look.Look, rule.Note.Note, rule.Reading.Reading, rule.Sight.Sight, rule.Stage.Stage, rule.View.View}
+use Rattle.mc_board.specs.declared.{rule.Counts.Counts, rule.Look.Look, rule.Note.Note, rule.Reading.Reading, rule.Sight.Sight, rule.Span.Span, rule.Stage.Stage, rule.View.View}
 use Rattle.mc_board.specs.declared.rule.Look.TheVariants as looks
 use Rattle.mc_board.specs.declared.rule.View.TheVariants as views
 use Rattle.mc_board.specs.{Figures.figures_of, Histories.list_at, Histories.IsBehind, Histories.IsNoteOf, Views.locks_of, Views.first_word, Views.words_of}
@@ -19,8 +19,9 @@ use Rattle.mc_board.proofs.PrefixLemmas.{same_or_not, prefix_self, prefix_trans,
 abbrev pub Law : Counts → State Unit View → Type 0
 Law counts s = IsGrowing counts s.words s.views
 
-abbrev pub ledger : Counts → List ℕ → (ℕ → List Event) → (ℕ → Stage) → (ℕ → Option ℕ) → Ledger
-ledger counts words history stage owner = record { counts = counts; words = words; history = history; stage = stage; owner = owner }
+abbrev pub ledger : Counts → List ℕ → (ℕ → List Event) → (ℕ → Stage) → (ℕ → Option ℕ) → (ℕ → List Span) → Ledger
+ledger counts words history stage owner made =
+    record { counts = counts; words = words; history = history; stage = stage; owner = owner; made = made }
 
 -- a lock's words are some of the words
 pub word_within : (counts : Counts) (lock i : ℕ) → lock < locks_of counts → i < 16 → first_word counts lock + i < words_of counts
@@ -84,22 +85,22 @@ pub record Moves (counts : Counts) (ws ws' : List ℕ) (h h' : ℕ → List Even
   pub same : (j : ℕ) → j ≢ lock → h' j ≡ h j
   pub quiet : (j : ℕ) → j ≢ lock → st' j ≡ st j
   pub behind : (s : Sight) → IsBehind h s → IsBehind h' s
-  pub reads : (o : ℕ → Option ℕ) (look : Look) → Reads (ledger counts ws h st o) look → Reads (ledger counts ws' h' st' o) look
+  pub reads : (o : ℕ → Option ℕ) (md : ℕ → List Span) (look : Look) → Reads (ledger counts ws h st o md) look → Reads (ledger counts ws' h' st' o md) look
 
 -- what the other seats know after a step of a lock's owner
-pub others_moved : (counts : Counts) (ws ws' : List ℕ) (h h' : ℕ → List Event) (st st' : ℕ → Stage) (o : ℕ → Option ℕ) (lock id : ℕ) → o lock ≡ some id
+pub others_moved : (counts : Counts) (ws ws' : List ℕ) (h h' : ℕ → List Event) (st st' : ℕ → Stage) (o : ℕ → Option ℕ) (md : ℕ → List Span) (lock id : ℕ) → o lock ≡ some id
     → Moves counts ws ws' h h' st st' lock
-    → (j : ℕ) (u : View) → j ≢ id → Knows (ledger counts ws h st o) j u → Knows (ledger counts ws' h' st' o) j u
-others_moved counts ws ws' h h' st st' o lock id mine m j (views.Root root) apart k = (
+    → (j : ℕ) (u : View) → j ≢ id → Knows (ledger counts ws h st o md) j u → Knows (ledger counts ws' h' st' o md) j u
+others_moved counts ws ws' h h' st st' o md lock id mine m j (views.Root root) apart k = (
   k.0,
   k.1,
   λ i le.
-      let was : IsFree (ledger counts ws h st o) i = k.2 i le in
+      let was : IsFree (ledger counts ws h st o md) i = k.2 i le in
       let else' : i ≢ lock = λ same. some-ne-none id (sym mine ∙ (ap o (sym same) ∙ was.owner)) in
-      record { owner = was.owner; history = m.same i else' ∙ was.history; stage = m.quiet i else' ∙ was.stage },
+      record { owner = was.owner; history = m.same i else' ∙ was.history; stage = m.quiet i else' ∙ was.stage; made = was.made },
 )
-others_moved counts ws ws' h h' st st' o lock id mine m j (views.Owner owned) apart k =
-    let was : IsOwner (ledger counts ws h st o) j owned = k in
+others_moved counts ws ws' h h' st st' o md lock id mine m j (views.Owner owned) apart k =
+    let was : IsOwner (ledger counts ws h st o md) j owned = k in
     let else' : owned.lock ≢ lock = λ same. apart (some-injective j id (sym was.owner ∙ (ap o same ∙ mine))) in
     record {
       owner = was.owner;
@@ -108,17 +109,21 @@ others_moved counts ws ws' h h' st st' o lock id mine m j (views.Owner owned) ap
       history = was.history ∙ sym (m.same owned.lock else');
       stage = was.stage ∙ sym (m.quiet owned.lock else');
       told = m.behind owned.told was.told;
+      first = was.first;
+      made = was.made;
+      shown = was.shown;
     }
-others_moved counts ws ws' h h' st st' o lock id mine m j (views.Seen known) apart k =
-    let was : IsToken (ledger counts ws h st o) known = k in
-    record { sight = m.behind known.sight was.sight; told = m.behind known.told was.told; look = m.reads o known.look was.look }
-others_moved counts ws ws' h h' st st' o lock id mine m j views.Spent apart k = tt
+others_moved counts ws ws' h h' st st' o md lock id mine m j (views.Seen known) apart k =
+    let was : IsToken (ledger counts ws h st o md) known = k in
+    record { sight = m.behind known.sight was.sight; told = m.behind known.told was.told; look = m.reads o md known.look was.look }
+others_moved counts ws ws' h h' st st' o md lock id mine m j (views.Account account) apart k = k
+others_moved counts ws ws' h h' st st' o md lock id mine m j views.Spent apart k = tt
 
 -- a reading holds on if its lock's first word and history stay
-reading_same : (counts : Counts) (ws ws' : List ℕ) (h h' : ℕ → List Event) (st st' : ℕ → Stage) (o : ℕ → Option ℕ) (r : Reading)
+reading_same : (counts : Counts) (ws ws' : List ℕ) (h h' : ℕ → List Event) (st st' : ℕ → Stage) (o : ℕ → Option ℕ) (md : ℕ → List Span) (r : Reading)
     → slice_index ws' (first_word counts r.lock) ≡ slice_index ws (first_word counts r.lock) → h' r.lock ≡ h r.lock
-    → IsReading (ledger counts ws h st o) r → IsReading (ledger counts ws' h' st' o) r
-reading_same counts ws ws' h h' st st' o r first same k =
+    → IsReading (ledger counts ws h st o md) r → IsReading (ledger counts ws' h' st' o md) r
+reading_same counts ws ws' h h' st st' o md r first same k =
     record {
       lock = k.lock;
       later = omega (arith, k.later, first);
@@ -128,27 +133,27 @@ reading_same counts ws ws' h h' st st' o r first same k =
 
 -- readings hold on if no first word and no history changes
 pub reads_same : (counts : Counts) (ws ws' : List ℕ) (h : ℕ → List Event) (st st' : ℕ → Stage) → ((j : ℕ) → slice_index ws' (first_word counts j) ≡ slice_index ws (first_word counts j))
-    → (o : ℕ → Option ℕ) (look : Look) → Reads (ledger counts ws h st o) look → Reads (ledger counts ws' h st' o) look
-reads_same counts ws ws' h st st' firsts o looks.Away k = tt
-reads_same counts ws ws' h st st' firsts o (looks.Reading r) k = reading_same counts ws ws' h h st st' o r (firsts r.lock) refl k
+    → (o : ℕ → Option ℕ) (md : ℕ → List Span) (look : Look) → Reads (ledger counts ws h st o md) look → Reads (ledger counts ws' h st' o md) look
+reads_same counts ws ws' h st st' firsts o md looks.Away k = tt
+reads_same counts ws ws' h st st' firsts o md (looks.Reading r) k = reading_same counts ws ws' h h st st' o md r (firsts r.lock) refl k
 
 -- readings hold on if the first word of one lock becomes greater, and those of the others stay
 pub reads_later : (counts : Counts) (ws ws' : List ℕ) (h h' : ℕ → List Event) (st st' : ℕ → Stage) (lock : ℕ)
     → ((j : ℕ) → j ≢ lock → slice_index ws' (first_word counts j) ≡ slice_index ws (first_word counts j))
     → ((j : ℕ) → j ≢ lock → h' j ≡ h j)
     → slice_index ws (first_word counts lock) < slice_index ws' (first_word counts lock)
-    → (o : ℕ → Option ℕ) (look : Look) → Reads (ledger counts ws h st o) look → Reads (ledger counts ws' h' st' o) look
-reads_later counts ws ws' h h' st st' lock firsts same lt o looks.Away k = tt
-reads_later counts ws ws' h h' st st' lock firsts same lt o (looks.Reading r) k =
-    let was : IsReading (ledger counts ws h st o) r = k in
+    → (o : ℕ → Option ℕ) (md : ℕ → List Span) (look : Look) → Reads (ledger counts ws h st o md) look → Reads (ledger counts ws' h' st' o md) look
+reads_later counts ws ws' h h' st st' lock firsts same lt o md looks.Away k = tt
+reads_later counts ws ws' h h' st st' lock firsts same lt o md (looks.Reading r) k =
+    let was : IsReading (ledger counts ws h st o md) r = k in
     ⊎_elim
     (λ (here : r.lock ≡ lock).
     let more : slice_index ws (first_word counts r.lock) < slice_index ws' (first_word counts r.lock) =
     subst (λ (j : ℕ). slice_index ws (first_word counts j) < slice_index ws' (first_word counts j)) (sym here) lt in
-    let now : IsReading (ledger counts ws' h' st' o) r = record {
+    let now : IsReading (ledger counts ws' h' st' o md) r = record {
       lock = was.lock;
       later = omega (arith, was.later, more);
       same = λ is even. absurd (omega (arith, was.later, more, is));
     } in now)
-    (λ (apart : r.lock ≢ lock). reading_same counts ws ws' h h' st st' o r (firsts r.lock apart) (same r.lock apart) was)
+    (λ (apart : r.lock ≢ lock). reading_same counts ws ws' h h' st st' o md r (firsts r.lock apart) (same r.lock apart) was)
     (same_or_not r.lock lock)

@@ -4,20 +4,22 @@ use mathlib.Core.Option.{Option, none, some}
 use lib.ListN.{get_elem?}
 use Rattle.mc_item.specs.declared.event.Event.{Event}
 use Rattle.mc_board.specs.declared.{rule.Counts.Counts, rule.Known.Known, rule.Look.Look, rule.Owned.Owned, rule.Reading.Reading}
-use Rattle.mc_board.specs.declared.{rule.Stage.Stage, rule.View.View}
+use Rattle.mc_board.specs.declared.{rule.Span.Span, rule.Stage.Stage, rule.View.View}
 use Rattle.mc_board.specs.declared.rule.Look.TheVariants as looks
 use Rattle.mc_board.specs.declared.rule.Stage.TheVariants as stages
 use Rattle.mc_board.specs.declared.rule.View.TheVariants as views
-use Rattle.mc_board.specs.{Figures.figures_of, Histories.IsBehind, Views.locks_of, Views.first_word, Views.words_of}
+use Rattle.mc_board.specs.{Accounts.IsAccount, Accounts.IsCopy, Accounts.first_caller, Figures.figures_of, Histories.IsBehind}
+use Rattle.mc_board.specs.Views.{locks_of, first_word, words_of}
 
--- the board between two steps: the counts, the words, and for each lock its history, whether its owner is writing, and the seat
--- of its one owner, if given out
+-- the board between two steps: the counts, the words, and for each lock its history, whether its owner is writing, the seat of
+-- its one owner, if given out, and what the caller with its history there made on other locks
 pub record Ledger : Type 0 where
   pub counts : Counts
   pub words : List ℕ
   pub history : ℕ → List Event
   pub stage : ℕ → Stage
   pub owner : ℕ → Option ℕ
+  pub made : ℕ → List Span
 
 -- 1 while an owner is writing, otherwise 0
 abbrev pub turn : Stage → ℕ
@@ -53,13 +55,15 @@ abbrev pub Reads : Ledger → Look → Type 0
 Reads ledger looks.Away = Unit {0}
 Reads ledger (looks.Reading reading) = IsReading ledger reading
 
--- the root hasn't given out this lock: it has no owner and no event, and nothing is written
+-- the root hasn't given out this lock: it has no owner and no event, nothing is written, and nothing was made
 pub record IsFree (ledger : Ledger) (lock : ℕ) : Type 0 where
   pub owner : ledger.owner lock ≡ none
   pub history : ledger.history lock ≡ []
   pub stage : ledger.stage lock ≡ stages.Still
+  pub made : ledger.made lock ≡ []
 
--- the seat is the one owner of a lock, and knows its word, whole history and stage; what it was shown last is behind the histories
+-- the seat is the one owner of a lock, and knows its word, whole history, stage and account; what it was shown last is behind the
+-- histories, and a copy of an account
 pub record IsOwner (ledger : Ledger) (seat : ℕ) (owned : Owned) : Type 0 where
   pub owner : ledger.owner owned.lock ≡ some seat
   pub lock : owned.lock < locks_of ledger.counts
@@ -67,6 +71,9 @@ pub record IsOwner (ledger : Ledger) (seat : ℕ) (owned : Owned) : Type 0 where
   pub history : owned.history ≡ ledger.history owned.lock
   pub stage : owned.stage ≡ ledger.stage owned.lock
   pub told : IsBehind ledger.history owned.told
+  pub first : owned.first ≡ first_caller ledger.counts
+  pub made : owned.made ≡ ledger.made owned.lock
+  pub shown : IsCopy (first_caller ledger.counts) ledger.made owned.shown
 
 -- what a token has seen and noted, and what it was shown last, is behind the histories, and what it is reading holds
 pub record IsToken (ledger : Ledger) (known : Known) : Type 0 where
@@ -81,15 +88,18 @@ Knows ledger seat (views.Root root) =
     (seat ≡ 0) × (root.counts ≡ ledger.counts) × ((lock : ℕ) → root.given ≤ lock → IsFree ledger lock)
 Knows ledger seat (views.Owner owned) = IsOwner ledger seat owned
 Knows ledger seat (views.Seen known) = IsToken ledger known
+Knows ledger seat (views.Account account) = IsCopy (first_caller ledger.counts) ledger.made account
 Knows ledger seat views.Spent = Unit {0}
 
 -- the rule: each lock has one history, whose length and figures are in the lock's nine words; its one owner knows all of it, and
--- each token has seen a beginning of it and has noted figures of beginnings
+-- each token has seen a beginning of it and has noted figures of beginnings; each caller's account has all that the caller made
 pub record IsGrowing (counts : Counts) (words : List ℕ) (seats : List View) : Type 0 where
   pub history : ℕ → List Event
   pub stage : ℕ → Stage
   pub owner : ℕ → Option ℕ
+  pub made : ℕ → List Span
   pub wide : length words ≡ words_of counts
   pub written : (lock : ℕ) → lock < locks_of counts → IsWritten words (first_word counts lock) (history lock) (stage lock)
+  pub accounts : (lock : ℕ) → IsAccount (first_caller counts) lock (made lock) history
   pub known : (seat : ℕ) (v : View) → get_elem? seats seat ≡ some v
-      → Knows (record { counts = counts; words = words; history = history; stage = stage; owner = owner }) seat v
+      → Knows (record { counts = counts; words = words; history = history; stage = stage; owner = owner; made = made }) seat v

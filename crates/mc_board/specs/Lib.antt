@@ -1,6 +1,7 @@
 pub mod Figures
 pub mod Histories
 pub mod Views
+pub mod Accounts
 pub mod Board
 pub mod Steps
 pub mod Writing

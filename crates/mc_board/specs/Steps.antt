@@ -1,17 +1,33 @@
 -- The steps on the board that compare, split and join: what each does to the views, and what it ensures (own).
 use Rattle.std.specs.Prelude.{◌≡◌, ℕ, ◌+◌, []}
 use Rattle.atomic_table.specs.Table.{Me, Step}
-use Rattle.mc_board.specs.declared.{rule.Counts.Counts, rule.Sight.Sight, rule.Owned.Owned, rule.Known.Known, rule.View.View}
+use Rattle.mc_board.specs.declared.{rule.Account.Account, rule.Counts.Counts, rule.Known.Known, rule.Owned.Owned, rule.Sight.Sight}
+use Rattle.mc_board.specs.declared.{rule.Span.Span, rule.View.View}
 use Rattle.mc_board.specs.declared.rule.Look.TheVariants as looks
 use Rattle.mc_board.specs.declared.rule.Stage.TheVariants as stages
 use Rattle.mc_board.specs.declared.rule.View.TheVariants as views
-use Rattle.mc_board.specs.Histories.{blind, with_seen, AreInLine, IsAhead}
+use Rattle.mc_board.specs.Accounts.{first_caller, with_span, IsAccount}
+use Rattle.mc_board.specs.Histories.{blind, list_at, with_seen, AreInLine, IsAhead}
 use Rattle.mc_board.specs.Views.{first_word}
+
+-- what the owner of a lock with this first word knows at the start: its history is empty, and nothing was made or shown
+abbrev pub new_owned : ℕ → ℕ → ℕ → Owned
+new_owned first lock word =
+    record {
+      lock = lock;
+      word = word;
+      history = [];
+      stage = stages.Still;
+      told = blind;
+      first = first;
+      made = [];
+      shown = record { first = first; lock = 0; made = [] };
+    }
 
 -- what an owner knows, or a default for any other view
 abbrev pub owned_of : View → Owned
 owned_of (views.Owner owned) = owned
-owned_of _ = record { lock = 0; word = 0; history = []; stage = stages.Still; told = blind }
+owned_of _ = new_owned 0 0 0
 
 -- what a token knows, or nothing for any other view
 abbrev pub known_of : View → Known
@@ -30,9 +46,9 @@ newcomer = views.Seen (record { sight = blind; told = blind; look = looks.Away }
 abbrev pub seeing : Sight → View
 seeing sight = views.Seen (record { sight = sight; told = blind; look = looks.Away })
 
--- the view of a lock's owner, with an empty history
-abbrev pub owning : ℕ → ℕ → View
-owning lock word = views.Owner (record { lock = lock; word = word; history = []; stage = stages.Still; told = blind })
+-- the view of a lock's owner at the start
+abbrev pub owning : ℕ → ℕ → ℕ → View
+owning first lock word = views.Owner (new_owned first lock word)
 
 -- what an owner knows after a token showed it this sight
 abbrev pub owned_told : Owned → Sight → Owned
@@ -42,12 +58,14 @@ owned_told owned sight = record owned { told = sight }
 abbrev pub known_told : Known → Sight → Known
 known_told known sight = record known { told = sight }
 
--- what an owner was shown of its own lock is behind its history
+-- what an owner was shown of its own lock is behind its history, and what it was shown of any lock is in its account, as far as
+-- its caller made it
 abbrev pub IsOwnerAhead : View → Type 0
-IsOwnerAhead (views.Owner owned) = IsAhead owned.history owned.told owned.lock
+IsOwnerAhead (views.Owner owned) =
+    IsAhead owned.history owned.told owned.lock × IsAccount owned.first owned.lock owned.made (list_at owned.told.seen)
 IsOwnerAhead v = Unit {0}
 
--- what an owner's comparison ensures: nothing changes, and what the owner was shown of its lock is behind its history
+-- what an owner's comparison ensures: nothing changes, and its history and account are ahead of what it was shown
 abbrev pub Compared : Step Unit → Me Unit View → ℕ → Me Unit View → Type 0
 Compared step me found after = (after ≡ me) × IsOwnerAhead me.0
 
@@ -67,7 +85,7 @@ root_after v = v
 
 -- the view of the owner that the root gives out next
 abbrev pub next_owner : View → View
-next_owner (views.Root root) = owning root.given (first_word root.counts root.given)
+next_owner (views.Root root) = owning (first_caller root.counts) root.given (first_word root.counts root.given)
 next_owner v = views.Spent
 
 -- split: the view of a second token, which has seen and noted the same
@@ -86,9 +104,36 @@ hearing (views.Owner owned) (views.Seen other) = views.Owner (owned_told owned o
 hearing (views.Seen known) (views.Seen other) = views.Seen (known_told known other.sight)
 hearing v w = v
 
+-- what a caller's owner knows after it has entered these events in its account
+abbrev pub owned_entered : Owned → Span → Owned
+owned_entered owned span = record owned { made = with_span owned.made span }
+
+-- the account of an owner's caller
+abbrev pub account_of : Owned → Account
+account_of owned = record { first = owned.first; lock = owned.lock; made = owned.made }
+
+-- enter: a caller's account gains these events
+abbrev pub entered : Span → View → View
+entered span (views.Owner owned) = views.Owner (owned_entered owned span)
+entered span v = v
+
+-- the copy of the account that is then given out
+abbrev pub entered_copy : Span → View → View
+entered_copy span (views.Owner owned) = views.Account (account_of (owned_entered owned span))
+entered_copy span v = views.Spent
+
+-- what an owner knows after it was shown this account
+abbrev pub owned_shown : Owned → Account → Owned
+owned_shown owned account = record owned { shown = account }
+
+-- join: an owner is shown a copy of an account
+abbrev pub showing : View → View → View
+showing (views.Owner owned) (views.Account account) = views.Owner (owned_shown owned account)
+showing v w = v
+
 -- a view that no seat has: the word of an owner's lock is never 0
 abbrev pub no_view : View
-no_view = owning 0 0
+no_view = owning 0 0 0
 
 -- what a step that no seat can make ensures: it never happens
 abbrev pub NeverHappens : Step Unit → Me Unit View → ℕ → Me Unit View → Type 0

@@ -2,18 +2,21 @@
 use Rattle.std.specs.Prelude.{◌≡◌, ℕ, ◌+◌, ◌-◌, ◌*◌, ◌/◌, ◌<◌, List, [], length, Some, slice_get}
 use Rattle.atomic_table.specs.Seated.{TableId}
 use Rattle.mc_item.specs.declared.event.Event.{Event}
-use Rattle.mc_board.specs.declared.{rule.Counts.Counts, rule.Sight.Sight}
+use Rattle.mc_board.specs.declared.{rule.Counts.Counts, rule.Sight.Sight, rule.Span.Span}
 
 -- a board: which table it is, and how many locks of each kind it has
 pub record BoardView : Type 0 where
   pub table : TableId
   pub counts : Counts
 
--- an owner: the board's table, the lock, and the lock's whole history
+-- an owner: the board's table, the lock, the lock's whole history, the lock of the first caller's history, and if the lock is a
+-- caller's, the events that the caller made on other locks, the oldest first
 pub record OwnerView : Type 0 where
   pub board : TableId
   pub lock : ℕ
   pub history : List Event
+  pub first : ℕ
+  pub made : List Span
 
 -- a token: the board's table, and what it has seen and noted, figures too
 pub record SeenView : Type 0 where
@@ -40,8 +43,11 @@ lock_of word = word / line_words - 1
 abbrev pub words_of : Counts → ℕ
 words_of counts = (locks_of counts + 1) * line_words
 
--- there is an owner for each lock, in the order of the locks, and all histories are empty
-abbrev pub AreOwners : TableId → ℕ → List OwnerView → Type 0
-AreOwners board locks owners =
-    (length owners ≡ locks)
-    × ((lock : ℕ) → lock < locks → slice_get owners lock ≡ Some (record { board = board; lock = lock; history = [] }))
+-- the owner of a lock at the start: the history is empty, and nothing was made
+abbrev pub new_owner : TableId → ℕ → ℕ → OwnerView
+new_owner board first lock = record { board = board; lock = lock; history = []; first = first; made = [] }
+
+-- there is a new owner for each of these locks, in their order
+abbrev pub AreOwners : TableId → ℕ → ℕ → List OwnerView → Type 0
+AreOwners board first locks owners =
+    (length owners ≡ locks) × ((lock : ℕ) → lock < locks → slice_get owners lock ≡ Some (new_owner board first lock))

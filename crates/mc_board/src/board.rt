@@ -1,6 +1,6 @@
 //! The board, which all threads share.
-ghost use Rattle.std.specs.Prelude.{◌≡◌, ◌<◌, ◌≤◌, ◌+◌, ◌*◌, ◌^◌, IfOk, IfErr, []};
-ghost use Rattle.mc_board.specs.{Histories.blind, Views.AreOwners, Views.line_words, Views.locks_of, Views.first_word};
+ghost use Rattle.std.specs.Prelude.{◌≡◌, ◌<◌, ◌≤◌, ◌+◌, ◌^◌, IfOk, IfErr, []};
+ghost use Rattle.mc_board.specs.{Accounts.first_caller, Histories.blind, Views.AreOwners, Views.locks_of, Views.first_word, Views.words_of};
 ghost use Rattle.mc_board.specs.declared.rule.View.TheVariants as views;
 
 use crate::owner::Owner;
@@ -33,26 +33,20 @@ impl Model for Board {
 }
 
 impl Board {
-    /// Opens a board with this many locks, whose histories are all empty.
+    /// Opens a board with this many locks of each kind, whose histories are all empty.
     /// Returns it with an owner for each lock, in the order of the locks, and a token that has seen nothing.
     /// Errors: `NoMemory` if an allocation fails, or if the words of so many locks can't be counted in 64 bits.
-    pub fn open(alloc: Global, locks: usize) -> Result<(Board, Vec<Owner>, Seen), NoMemory>
-        ensures locks { IfOk result (λ r. locks_of r.0.counts ≡ locks) }
-        ensures owners { IfOk result (λ r. AreOwners r.0.table locks r.1.items) }
+    pub fn open(alloc: Global, counts: Counts) -> Result<(Board, Vec<Owner>, Seen), NoMemory>
+        ensures counts { IfOk result (λ r. r.0.counts ≡ counts) }
+        ensures owners { IfOk result (λ r. AreOwners r.0.table (first_caller counts) (locks_of counts) r.1.items) }
         ensures seen { IfOk result (λ r. r.2 ≡ record { board = r.0.table; sight = blind }) }
     {
-        // All locks are counted as stripes here, since each has nine words, whatever its kind.
-        let counts = Counts {
-            stripes: locks,
-            classes: 0,
-            callers: 0,
-        };
-        let words = words_for(locks)?;
+        let words = words_for(counts)?;
         let zeros = vec![in alloc; 0u64; words]?;
         let (table, mut root) = Words::of_words(alloc, zeros.as_slice(), &counts)?;
         let board = Board { table, counts };
         let seen = Seen::at(board.table.shared.split_seat::<Opens>(&mut root));
-        let owners = deal(alloc, &board, &mut root, locks)?;
+        let owners = deal(alloc, &board, &mut root)?;
         Ok((board, owners, seen))
     }
 
@@ -71,28 +65,25 @@ impl Board {
 const LINE: usize = 16;
 
 // The number of words for this many locks. Fails if that is 2^64 or more.
-fn words_for(locks: usize) -> Result<usize, NoMemory>
-    ensures ok { IfOk result (λ words. words ≡ (locks + 1) * line_words) }
-    ensures err { IfErr result (λ _. 2 ^ 64 ≤ (locks + 1) * line_words) }
+fn words_for(counts: Counts) -> Result<usize, NoMemory>
+    ensures ok { IfOk result (λ words. words ≡ words_of counts) }
+    ensures err { IfErr result (λ _. 2 ^ 64 ≤ words_of counts) }
 {
-    let lines = locks.checked_add(1).ok_or(NoMemory)?;
+    let locks = counts.stripes.checked_add(counts.classes).ok_or(NoMemory)?;
+    let all = locks.checked_add(counts.callers).ok_or(NoMemory)?;
+    let lines = all.checked_add(1).ok_or(NoMemory)?;
     lines.checked_mul(LINE).ok_or(NoMemory)
 }
 
 // Gives out an owner for each lock, in the order of the locks.
-fn deal(
-    alloc: Global,
-    board: &Board,
-    root: &mut Place,
-    locks: usize,
-) -> Result<Vec<Owner>, NoMemory>
+fn deal(alloc: Global, board: &Board, root: &mut Place) -> Result<Vec<Owner>, NoMemory>
     requires table { root.old.table_id ≡ board.now.table }
-    requires locks { locks_of board.now.counts ≡ locks }
     requires root { root.old.me ≡ (views.Root (record { counts = board.now.counts; given = 0 }), []) }
-    ensures { IfOk result (λ owners. AreOwners board.now.table locks owners.items) }
+    ensures { IfOk result (λ owners. AreOwners board.now.table (first_caller board.now.counts) (locks_of board.now.counts) owners.items) }
 {
+    let counts = board.counts;
     let mut owners = Vec::new(alloc);
-    for lock in 0..locks {
+    for lock in 0..counts.stripes + counts.classes + counts.callers {
         let word = board.first_word(lock);
         let place = board.table.shared.split_seat::<Deals>(root);
         owners.push(Owner::at(word, place))?;

@@ -15,5 +15,7 @@ mod writing;
 pub use board::Board;
 pub use figures::{Busy, Figures};
 pub use owner::Owner;
-pub use rule::{Counts, Known, Law, Look, Note, Owned, Reading, Root, Sight, Stage, View};
+pub use rule::{
+    Account, Counts, Known, Law, Look, Note, Owned, Reading, Root, Sight, Span, Stage, View,
+};
 pub use seen::Seen;

@@ -1,4 +1,4 @@
-//! Names, in types, for the events that a step adds. Each call picks its own.
+//! Names, in types, for the events that a step adds or enters in an account. Each call picks its own.
 use std::marker::Brand;
 
 /// Names the events that one step adds to a history.
@@ -13,4 +13,15 @@ impl NamesEvents for Brand {
     ghost use Rattle.std.specs.Prelude.{[]};
 
     ghost entries = { [] };
+}
+
+/// Names the events that a caller enters in its account.
+pub(crate) trait NamesSpan {
+    ghost use Rattle.mc_board.specs.declared.rule.Span.{Span};
+
+    ghost span: { Span };
+}
+
+impl NamesSpan for Brand {
+    ghost span = { record { turn = 0; lock = 0; from = 0; until = 0 } };
 }

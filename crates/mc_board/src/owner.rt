@@ -1,8 +1,9 @@
 //! The owner of a lock's history.
-ghost use Rattle.std.specs.Prelude.{◌≡◌, ◌<◌, ◌≤◌, ◌+◌, ◌^◌, ◌++◌, ◌∷◌, [], length, map};
+ghost use Rattle.std.specs.Prelude.{◌≡◌, ◌<◌, ◌≤◌, ◌+◌, ◌^◌, ◌++◌, ◌∷◌, [], None, drop, length, map};
 ghost use mathlib.Core.List.{IsPrefix};
 ghost use Rattle.mc_evidence.specs.Seen.{class_events};
-ghost use Rattle.mc_board.specs.Histories.{with_seen, Grows, HasFigures, HasNoted, HasSeen, IsAhead};
+ghost use Rattle.mc_board.specs.Accounts.{AreBy, IsAccount, maker_in, with_new};
+ghost use Rattle.mc_board.specs.Histories.{list_at, with_seen, Grows, HasFigures, HasNoted, HasSeen, IsAhead};
 ghost use Rattle.mc_board.specs.{Figures.figures_of, Steps.owned_of, Steps.owned_told, Writing.IsOwnerAt};
 ghost use Rattle.mc_board.specs.declared.rule.Stage.TheVariants as stages;
 ghost use Rattle.mc_board.specs.declared.rule.View.TheVariants as views;
@@ -11,12 +12,14 @@ use crate::board::Board;
 use crate::rule::Place;
 use crate::seen::Seen;
 use crate::steps::{Clashes, Compares, Hears, Never, Tells};
-use crate::writing::{add, begin, end, write};
+use crate::writing::{add, begin, end, enter, write};
 use mc_history::{History, Shows};
-use mc_item::Logged;
+use mc_item::{Logged, Who};
 use std::marker::{Brand, Model};
 
 /// The only token that can add to a lock's history. It knows the whole history, and has its figures in memory.
+/// The owner of a caller's history also keeps the caller's account: which events of stripes and classes the caller made. It is
+/// needed to make them. The account exists in proofs alone.
 #[derive(Drop)]
 pub struct Owner {
     word: usize,
@@ -36,6 +39,8 @@ impl Model for Owner {
       board = o.place.table_id;
       lock = (owned_of o.place.me.0).lock;
       history = (owned_of o.place.me.0).history;
+      first = (owned_of o.place.me.0).first;
+      made = (owned_of o.place.me.0).made;
     } };
 
     ghost invariant = { λ o.
@@ -56,6 +61,8 @@ impl Owner {
           board = place.table_id;
           lock = (owned_of place.me.0).lock;
           history = (owned_of place.me.0).history;
+          first = (owned_of place.me.0).first;
+          made = (owned_of place.me.0).made;
         } }
     {
         Owner {
@@ -66,13 +73,14 @@ impl Owner {
         }
     }
 
-    /// Adds the event at the end of the history, in one atomic step. Allocates nothing and never waits.
+    /// Adds the event of a caller's own history at the end, in one atomic step. Allocates nothing and never waits.
     /// It is no class's event, so the figures stay. Before the call the history has fewer than 2^63 - 1 events.
     #[inline(always)]
     pub fn append<E: Logged>(&mut self, board: &Board, event: &E)
         requires board { self.old.board ≡ board.now.table }
         requires room { length self.old.history + 1 < 2 ^ 63 }
         requires plain { class_events (E.entry event.now ∷ []) ≡ [] }
+        requires own { maker_in (E.entry event.now) ≡ None }
         ensures history { self.new ≡ record self.old {
           history = self.old.history ++ E.entry event.now ∷ [];
         } }
@@ -84,20 +92,28 @@ impl Owner {
     /// Adds the events of the list that the history doesn't have yet, in order and in one atomic step. Allocates nothing and never
     /// waits. None is a class's event, so the figures stay.
     /// Before the call the history is a beginning of the list, and after it the two are equal. The list has at most 2^32 events.
+    /// All new events are of one call, `who`. `caller` is the owner of its caller's history, and enters them in its account.
     #[inline(always)]
     pub fn catch_up<E: Logged + Drop, S: Shows<E> + Drop>(
         &mut self,
         board: &Board,
         events: &History<E, S>,
+        who: Who,
+        caller: &mut Owner,
     )
-        requires board { self.old.board ≡ board.now.table }
+        requires board { (self.old.board ≡ board.now.table) × (caller.old.board ≡ board.now.table) }
         requires behind { IsPrefix self.old.history (map E.entry events.now.items) }
         requires room { length events.now.items ≤ 2 ^ 32 }
         requires plain { class_events (map E.entry events.now.items) ≡ [] }
+        requires by { AreBy who (drop (length self.old.history) (map E.entry events.now.items)) × (caller.old.first + who.caller ≡ caller.old.lock) }
         ensures history { self.new ≡ record self.old { history = map E.entry events.now.items } }
+        ensures caller { caller.new ≡ record caller.old {
+          made = with_new caller.old.made who.turn self.old.lock (length self.old.history) (length events.now.items);
+        } }
     {
         let count = events.len() - self.len();
         if count > 0 {
+            enter::<Brand, History<E, S>>(board, &mut caller.place, &mut self.place, who, events);
             add::<Brand, History<E, S>>(board, self.word, &mut self.place, count, events);
             self.events = events.len();
         }
@@ -113,21 +129,29 @@ impl Owner {
     /// are written. These are the figures that the whole list leaves. In between, a token that reads them finds the lock busy.
     /// Allocates nothing and never waits. Without such events it does nothing.
     /// Before the call the history is a beginning of the list, and after it the two are equal. The list has at most 2^32 events.
+    /// All new events are of one call, `who`. `caller` is the owner of its caller's history, and enters them in its account.
     #[inline(always)]
     pub fn publish<E: Logged + Drop, S: Shows<E> + Drop>(
         &mut self,
         board: &Board,
         events: &History<E, S>,
         figures: &[u64; 8],
+        who: Who,
+        caller: &mut Owner,
     )
-        requires board { self.old.board ≡ board.now.table }
+        requires board { (self.old.board ≡ board.now.table) × (caller.old.board ≡ board.now.table) }
         requires behind { IsPrefix self.old.history (map E.entry events.now.items) }
         requires room { length events.now.items ≤ 2 ^ 32 }
         requires figures { figures.now ≡ figures_of (map E.entry events.now.items) }
+        requires by { AreBy who (drop (length self.old.history) (map E.entry events.now.items)) × (caller.old.first + who.caller ≡ caller.old.lock) }
         ensures history { self.new ≡ record self.old { history = map E.entry events.now.items } }
+        ensures caller { caller.new ≡ record caller.old {
+          made = with_new caller.old.made who.turn self.old.lock (length self.old.history) (length events.now.items);
+        } }
     {
         let count = events.len() - self.len();
         if count > 0 {
+            enter::<Brand, History<E, S>>(board, &mut caller.place, &mut self.place, who, events);
             begin(board, self.word, &mut self.place);
             write(board, self.word, &mut self.place, &self.figures, figures);
             end::<Brand, History<E, S>>(board, self.word, &mut self.place, count, events);
@@ -136,15 +160,17 @@ impl Owner {
         }
     }
 
-    /// Compares the history with a token. Nothing changes.
+    /// Compares the history and the account with a token. Nothing changes.
     /// What the token has seen of this lock is a beginning of the history. What it has noted is at most the history's length. The
-    /// figures that it has noted of this lock are those of beginnings of the history.
+    /// figures that it has noted of this lock are those of beginnings of the history. If the lock is a caller's, the account has each
+    /// event of a stripe or class that the token has seen and that this caller made.
     pub fn compare(&mut self, board: &Board, seen: &mut Seen)
         requires board { (self.old.board ≡ board.now.table) × (seen.old.board ≡ board.now.table) }
         ensures same { (self.new ≡ self.old) × (seen.new ≡ seen.old) }
         ensures seen { HasSeen self.old.history seen.old.sight self.old.lock }
         ensures noted { HasNoted self.old.history seen.old.sight self.old.lock }
         ensures figures { HasFigures self.old.history seen.old.sight self.old.lock }
+        ensures account { IsAccount self.old.first self.old.lock self.old.made (list_at seen.old.sight.seen) }
     {
         hear(board, self.word, &mut self.place, seen);
     }
@@ -191,6 +217,7 @@ fn hear(board: &Board, word: usize, place: &mut Place, seen: &mut Seen)
     ensures told { place.new.me ≡ (views.Owner (owned_told (owned_of place.old.me.0) seen.old.sight), []) }
     ensures same { seen.new ≡ seen.old }
     ensures ahead { IsAhead (owned_of place.old.me.0).history seen.old.sight (owned_of place.old.me.0).lock }
+    ensures account { IsAccount (owned_of place.old.me.0).first (owned_of place.old.me.0).lock (owned_of place.old.me.0).made (list_at seen.old.sight.seen) }
 {
     let copy = seen.copy(board);
     board.table.shared.join_seat::<Hears>(place, copy);

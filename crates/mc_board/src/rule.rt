@@ -52,14 +52,34 @@ pub struct Root {
     pub given: usize,
 }
 
+/// Events that a caller made in one turn: those of a lock's history from one place on, up to another.
+pub struct Span {
+    pub turn: u64,
+    pub lock: usize,
+    pub from: u64,
+    pub until: u64,
+}
+
+/// A caller's account: the lock of its own history, and the events that it made on other locks, the oldest first. `first` is the
+/// lock of the first caller's history.
+pub struct Account {
+    pub first: usize,
+    pub lock: usize,
+    pub made: LinkedList<Span>,
+}
+
 /// What an owner knows: its lock, that lock's first word, the whole history, and whether it is writing. `told` is what a token
-/// showed it last, to compare.
+/// showed it last, to compare. A caller's owner knows the caller's account, whose events are `made`. `first` is the lock of the
+/// first caller's history, and `shown` the account that was shown last.
 pub struct Owned {
     pub lock: usize,
     pub word: usize,
     pub history: LinkedList<Event>,
     pub stage: Stage,
     pub told: Sight,
+    pub first: usize,
+    pub made: LinkedList<Span>,
+    pub shown: Account,
 }
 
 /// What a token knows: what it has seen and noted, and what it is reading. `told` is what another token showed it last, to compare.
@@ -69,11 +89,12 @@ pub struct Known {
     pub look: Look,
 }
 
-/// What a seat knows, by its kind. A spent seat was joined into another.
+/// What a seat knows, by its kind. An account's seat has a copy of it. A spent seat was joined into another.
 pub enum View {
     Root(Root),
     Owner(Owned),
     Seen(Known),
+    Account(Account),
     Spent,
 }
 

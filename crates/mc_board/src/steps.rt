@@ -1,5 +1,5 @@
 //! The kinds of step on the board's table: what each ensures, and how views are split and joined.
-use crate::naming::NamesEvents;
+use crate::naming::{NamesEvents, NamesSpan};
 use crate::rule::View;
 use atomic_table::{Join, Play, Split};
 use std::marker::PhantomData;
@@ -150,6 +150,31 @@ impl Join<View> for Hears {
     ghost use Rattle.mc_board.specs.declared.rule.View.TheVariants.{Spent};
 
     ghost both = { hearing };
+
+    ghost spent = { Spent };
+}
+
+/// A caller's owner enters events in the caller's account, and gives out a copy of the account.
+pub(crate) struct Enters<N: NamesSpan> {
+    of: PhantomData<N>,
+}
+
+impl<N: NamesSpan> Split<View> for Enters<N> {
+    ghost use Rattle.mc_board.specs.Steps.{entered, entered_copy};
+
+    ghost left = { entered N.span };
+
+    ghost right = { entered_copy N.span };
+}
+
+/// A copy of an account is joined into an owner, which is thereby shown it.
+pub(crate) struct ShowsAccount;
+
+impl Join<View> for ShowsAccount {
+    ghost use Rattle.mc_board.specs.Steps.{showing};
+    ghost use Rattle.mc_board.specs.declared.rule.View.TheVariants.{Spent};
+
+    ghost both = { showing };
 
     ghost spent = { Spent };
 }

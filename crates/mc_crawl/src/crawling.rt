@@ -39,7 +39,7 @@ fn kind_at<G: Gate>(
     number: u64,
     gate: &mut G,
 ) -> Result<Kind, Fault>
-    requires gate { IsServedBy G.serves context.config.now gate.old class.old }
+    requires gate { IsServedBy G.serves context.config.now context.turn.who gate.old class.old }
     ensures crawled { IfOk result (IsCrawled (crawl_by context.entry number) class.old class.new (G.answers gate.old) (G.answers gate.new)) }
     ensures counted { IfOk result IsCounted }
     ensures err { OnErr result ((class.new ≡ with_room class.old class.new.room) × (G.answers gate.new ≡ G.answers gate.old)) }
@@ -65,7 +65,7 @@ pub fn crawl_one<G: Gate>(
     histogram: &mut Histogram,
     gate: &mut G,
 ) -> Result<(), Fault>
-    requires gate { IsServedBy G.serves context.config.now gate.old class.old }
+    requires gate { IsServedBy G.serves context.config.now context.turn.who gate.old class.old }
     requires counts { MayCount histogram.old }
     ensures crawled { OnOk result (HasCounted (crawl_by context.entry link.number) class.old class.new (G.answers gate.old) (G.answers gate.new)
         histogram.old histogram.new) }

@@ -8,8 +8,9 @@ use Rattle.mc_item.specs.declared.class_event.ClassEvent.TheVariants as entries
 use Rattle.mc_item.specs.declared.stripe_event.StripeEvent.TheVariants as events
 use Rattle.mc_evidence.specs.Setting.{IsClass}
 use Rattle.mc_script.specs.Exchanges.{Exchange}
-use Rattle.mc_store.specs.Callers.{IsBegun, IsOf, limits_of, moment_of, turns_of, who_of}
-use Rattle.mc_store.specs.{Locked.setting_of, Made.IsLimitCalled, Made.WasCalled, Made.maker_of}
+use Rattle.mc_board.specs.Accounts.{maker_of, who_of}
+use Rattle.mc_store.specs.Callers.{IsBegun, IsOf, limits_of, moment_of, turns_of}
+use Rattle.mc_store.specs.{Locked.setting_of, Made.IsLimitCalled, Made.WasCalled}
 use Rattle.mc_store.specs.Finals.{AreClasses, AreStripes, FinalView, class_histories, class_history, stripe_histories, stripe_history}
 use Rattle.mc_store.specs.{Passes.PassView, Sides.ClassSide, Sides.StripeSide}
 use Rattle.mc_store.proofs.NumberOrderLemmas.{get_some}

@@ -6,8 +6,9 @@ use Rattle.mc_item.specs.declared.{stripe_event.StripeEvent.StripeEvent}
 use Rattle.mc_item.specs.declared.stripe_event.StripeEvent.TheVariants as events
 use Rattle.mc_script.specs.Exchanges.{Asks, Begun, Crawls, Exchange, Juggles, Limits, ScriptCall}
 use Rattle.mc_evidence.specs.Setting.{IsClass}
-use Rattle.mc_store.specs.Callers.{IsCalled, IsMomentOf, asked_for, crawling_of, juggling_of, limits_of, turns_of, who_of}
-use Rattle.mc_store.specs.{Locked.setting_of, Made.WasCalled, Made.maker_of, Passes.PassView}
+use Rattle.mc_board.specs.Accounts.{maker_of, who_of}
+use Rattle.mc_store.specs.Callers.{IsCalled, IsMomentOf, asked_for, crawling_of, juggling_of, limits_of, turns_of}
+use Rattle.mc_store.specs.{Locked.setting_of, Made.WasCalled, Passes.PassView}
 use Rattle.mc_store.specs.Finals.{AreItsOwn, AreItsOwnInClasses, FinalView, IsBehindClasses, IsBehindStripes}
 use Rattle.mc_driver.specs.{Run.HasFull, Stand.AreOnly, Stand.Histories, Stand.Stand, Stand.StandsAnywhere, Stand.nothing_seen}
 

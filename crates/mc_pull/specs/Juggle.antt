@@ -15,11 +15,11 @@ KeepsSurveys {S} keeps w =
     (first : S) (begun : List ClassEvent) (gate : S) (history : List ClassEvent) (survey : Surveyed) → survey.who ≡ w.who → survey.moment ≡ w.moment
     → keeps w first begun gate history → keeps w first begun gate (history ++ events.Surveyed survey ∷ [])
 
--- a gate that serves a class still serves it after a survey of it, and with any room
-pub record OutlastsSurveys {S : Type 0} (serves : S → Config → ClassView → Type 0) : Type 0 where
-  pub survey : (gate : S) (config : Config) (c : ClassView) (who : Who) (moment room : ℕ) → serves gate config c
-      → serves gate config (class_with c (surveyed_event c who moment ∷ []) room)
-  pub room : (gate : S) (config : Config) (c : ClassView) (room : ℕ) → serves gate config c → serves gate config (with_room c room)
+-- a gate that serves a class for a call still serves it for that call after a survey of it by the call, and with any room
+pub record OutlastsSurveys {S : Type 0} (serves : S → Config → Who → ClassView → Type 0) : Type 0 where
+  pub survey : (gate : S) (config : Config) (c : ClassView) (who : Who) (moment room : ℕ) → serves gate config who c
+      → serves gate config who (class_with c (surveyed_event c who moment ∷ []) room)
+  pub room : (gate : S) (config : Config) (c : ClassView) (who : Who) (room : ℕ) → serves gate config who c → serves gate config who (with_room c room)
 
 -- the survey of a class with this history
 abbrev pub survey_at : Rounds → List ClassEvent → Survey

@@ -59,7 +59,7 @@ pub fn advance<G: Gate>(
     number: u64,
     gate: &mut G,
 ) -> Result<bool, Fault>
-    requires gate { IsServedBy G.serves context.config.now gate.old class.old }
+    requires gate { IsServedBy G.serves context.config.now context.turn.who gate.old class.old }
     ensures advanced { IfOk result (IsAdvance (question_by context.entry number judges.Hit) context.entry.config.now class.old class.new (G.answers gate.old)
         (G.answers gate.new)) }
     ensures moves { IfOk result (MovesIf (question_by context.entry number judges.Hit) class.old.history class.new.history) }

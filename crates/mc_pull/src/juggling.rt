@@ -198,7 +198,8 @@ fn juggle_rest<G: Gate>(
 /// Juggles a class, and returns how many entries it reclaimed and moved, at most 10,000 together. If TEMP is in use, a survey is
 /// made, and TEMP is pulled by it up to 500 times, until a walk does nothing. Then a second survey is made, and up to 500 rounds
 /// go by it, until one does nothing. A round pulls HOT, then WARM if that did nothing, then COLD.
-/// The gate must serve the class also after a survey and with any room. What it `keeps` must outlast a survey of this call.
+/// The gate must serve the class for this call, also after a survey of the call and with any room. What it `keeps` must outlast
+/// such a survey.
 /// Errors: the gate's faults, and those of `ClassState::survey`. Events made so far remain.
 pub fn juggle<G: Gate>(
     context: Context<'_>,

@@ -27,7 +27,7 @@ impl<'a> Gate for Lone<'a> {
 
     ghost answers = { λ g. g.answers.now.items };
 
-    ghost serves = { λ g config c. Serves g.number.0 g.stripe.now config };
+    ghost serves = { λ g config who c. Serves g.number.0 g.stripe.now config };
 
     ghost references = { λ g. g.stripe.ghost_name ∷ [] };
 

@@ -91,7 +91,7 @@ impl<'a> Look<'a> {
 /// Reaches the stripe of an entry's key for a walk, or says that it can't now, as when another thread has locked it.
 pub trait Gate {
     ghost use Rattle.std.specs.Prelude.{List, ℕ};
-    ghost use Rattle.mc_item.specs.declared.{config.Config.Config, class_event.ClassEvent.ClassEvent, fault.Fault.Fault};
+    ghost use Rattle.mc_item.specs.declared.{config.Config.Config, class_event.ClassEvent.ClassEvent, fault.Fault.Fault, item.Who.Who};
     ghost use Rattle.mc_segment.specs.ClassState.{ClassView};
     ghost use Rattle.mc_pull.specs.Walker.{Walker};
     ghost use Rattle.mc_pull.specs.declared.looking.Answer.{Answer};
@@ -99,8 +99,8 @@ pub trait Gate {
     /// Its answers so far, oldest first.
     ghost answers: { Self → List Answer };
 
-    /// It can judge entries of this class, and the stripes that it reaches were made with this configuration.
-    ghost serves: { Self → Config → ClassView → Type 0 };
+    /// It can judge entries of this class for this call, and the stripes that it reaches were made with this configuration.
+    ghost serves: { Self → Config → Who → ClassView → Type 0 };
 
     /// The mutable references that it holds, by their ghost names. A visit keeps them.
     ghost references: { Self → List ℕ };

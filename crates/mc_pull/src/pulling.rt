@@ -75,7 +75,7 @@ fn look_next<G: Gate>(
     gate: &mut G,
 ) -> Result<Answer, Fault>
     requires next { MayLookNext class.old seg mode context pulled }
-    requires gate { IsServedBy G.serves context.config.now gate.old class.old }
+    requires gate { IsServedBy G.serves context.config.now context.turn.who gate.old class.old }
     ensures answer { (left : ℕ) → 0 < left → IfOk result (λ a. IsAnswer (pull_by class.old seg mode context.entry) (way class.old.history left pulled false)
         a × (G.answers gate.new ≡ G.answers gate.old ++ a ∷ [])) }
     ensures class { (left : ℕ) → IfOk result (λ a. class.new.history ≡ (step (pull_by class.old seg mode context.entry) (way class.old.history left pulled
@@ -110,7 +110,7 @@ pub fn pull_tail<G: Gate>(
     gate: &mut G,
 ) -> Result<Pulled, Fault>
     requires walk { MayWalk class.old seg mode context.turn.who context.turn.moment }
-    requires gate { IsServedBy G.serves context.config.now gate.old class.old }
+    requires gate { IsServedBy G.serves context.config.now context.turn.who gate.old class.old }
     ensures walk { IfOk result (λ pulled. (xs : List Answer) × (G.answers gate.new ≡ G.answers gate.old ++ xs) × IsWalk (pull_by class.old seg mode
         context.entry) xs class.new.history pulled) }
     ensures err { OnErr result ((xs : List Answer) × (G.answers gate.new ≡ G.answers gate.old ++ xs) × IsBrokenWalk (pull_by class.old seg mode

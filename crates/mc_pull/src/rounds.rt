@@ -36,7 +36,7 @@ fn room_round<G: Gate>(
     gate: &mut G,
 ) -> Result<(), Fault>
     requires full { words.is_free class.old class.old.history ≡ false }
-    requires gate { IsServedBy G.serves context.config.now gate.old class.old }
+    requires gate { IsServedBy G.serves context.config.now context.turn.who gate.old class.old }
     ensures round { IfOk result (λ _. (xs : List Answer) × (G.answers gate.new ≡ G.answers gate.old ++ xs) × IsRoomRound (rounds_by class.old context.entry)
         class.old.history xs class.new.history) }
     ensures err { OnErr result ((xs : List Answer) × (G.answers gate.new ≡ G.answers gate.old ++ xs) × BreaksRoomRound (rounds_by class.old context.entry)
@@ -60,7 +60,7 @@ pub fn make_room<G: Gate>(
     class: &mut ClassState,
     gate: &mut G,
 ) -> Result<bool, Fault>
-    requires gate { IsServedBy G.serves context.config.now gate.old class.old }
+    requires gate { IsServedBy G.serves context.config.now context.turn.who gate.old class.old }
     ensures room { IfOk result (λ found. (xs : List Answer) × (G.answers gate.new ≡ G.answers gate.old ++ xs) × IsRoom (rounds_by class.old context.entry)
         class.old.history xs class.new.history found) }
     ensures err { OnErr result ((xs : List Answer) × (G.answers gate.new ≡ G.answers gate.old ++ xs) × BreaksRoom (rounds_by class.old context.entry)

@@ -13,7 +13,9 @@ use crate::readers::Piece::{self, Given, Lent};
 use crate::stores::Called;
 use crate::texts::Text;
 use crate::values::Plain;
-use Call::{Make, OpenBoard, OpenStore, OpenTokens, Read, Shared, Split, Try, World, Write};
+use Call::{
+    Make, OpenBoard, OpenStore, OpenTokens, Read, RunOne, Shared, Split, Try, TryTwo, World, Write,
+};
 use mc_item::Verb::{Append, Prepend, Set};
 
 /// A case's call, with what comes before it.
@@ -31,11 +33,15 @@ pub(crate) enum Call {
     World(&'static [Act], Act),
     /// A command is tried on a stripe and a class.
     Try,
+    /// The same on a stripe and two classes.
+    TryTwo,
     OpenBoard,
     OpenTokens,
     OpenStore,
     /// On a store.
     Shared(&'static [Called], Called),
+    /// A script is run over calls that are made up.
+    RunOne,
 }
 
 // Commands at 1000. The item of the second set is dead at 1001.
@@ -120,7 +126,7 @@ pub(crate) fn cases() -> &'static [(&'static str, Call)] {
     CASES.as_slice()
 }
 
-static CASES: [(&str, Call); 61] = [
+static CASES: [(&str, Call); 63] = [
     ("key", Make(Plain::MakeKey)),
     ("copy_of_a_key", Make(Plain::CopyKey)),
     ("copy_of_a_command", Make(Plain::CopyCommand)),
@@ -170,6 +176,7 @@ static CASES: [(&str, Call); 61] = [
     ("settle_of_a_hit", World(ACTIVE_IN_COLD, Both(JudgeHit))),
     ("settle_of_a_tail", World(IN_COLD, Both(JudgeTail))),
     ("attempt_one", Try),
+    ("attempt_two", TryTwo),
     ("pull_tail", World(IN_COLD, Both(Pull))),
     ("make_room", World(IN_HOT, Both(MakeRoom))),
     ("juggle", World(IN_HOT, Both(Juggle))),
@@ -185,4 +192,5 @@ static CASES: [(&str, Call); 61] = [
     ("store_set_for_a_chunk", Shared(FULL_SHARED, SET_SHARED)),
     ("store_juggle", Shared(FULL_SHARED, Called::Juggle)),
     ("store_crawl", Shared(DYING_SHARED, Called::Crawl)),
+    ("run_script", RunOne),
 ];

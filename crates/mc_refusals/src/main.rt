@@ -5,8 +5,10 @@
 //!
 //! `made`: the call did without, or nothing was refused. `refused, as before`: the histories, the items, the lists and the limit
 //! are as before, or the call only lends what there is. `refused, 2 events`: a call that makes several events made the first two,
-//! so that the histories begin those of the call that isn't refused, and no command of its turn was answered. `refused, for good`:
-//! a reader, which refuses each later call too. `refused, changed` and `not made` mean that something is wrong.
+//! so that the histories begin those of the call that isn't refused, and no command of its turn was answered. Of a run of scripts
+//! the events are the commands that were answered. Each script's text begins that of the run that isn't refused, and is that text
+//! if the script is done. `refused, for good`: a reader, which refuses each later call too. `refused, changed` and `not made` mean
+//! that something is wrong.
 #![tactic(auto)]
 
 mod acts;
@@ -17,12 +19,15 @@ mod end;
 mod forgetting;
 mod marks;
 mod noting;
+mod one_script;
 mod opening;
+mod ran;
 mod readers;
 mod stores;
 mod sums;
 mod texts;
 mod trying;
+mod two_classes;
 mod values;
 mod walking;
 mod worlds;
@@ -52,10 +57,12 @@ fn outcome_of(rt: &HostRuntime, wait: &impl Wait, call: Call) -> Option<Outcome>
         Call::Split(text) => Some(outcome_by(readers::split(alloc, text, marks))),
         Call::World(before, act) => worlds::outcome_of(rt, before, act),
         Call::Try => trying::outcome_of(rt, marks),
+        Call::TryTwo => two_classes::outcome_of(rt, marks),
         Call::OpenBoard => Some(outcome_by(opening::open_board(alloc, marks))),
         Call::OpenTokens => Some(outcome_by(opening::open_tokens(alloc, marks))),
         Call::OpenStore => Some(outcome_by(stores::open(rt, marks))),
         Call::Shared(before, call) => stores::outcome_of(rt, wait, before, call),
+        Call::RunOne => one_script::outcome_of(wait, marks),
     }
 }
 

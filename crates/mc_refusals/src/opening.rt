@@ -4,15 +4,20 @@ ghost use Rattle.mc_item.specs.Config.{IsBounded};
 use crate::end::{End, end_by};
 use crate::marks::Marks;
 use crate::worlds::sound_config;
-use mc_board::Board;
+use mc_board::{Board, Counts};
 use mc_item::Config;
 use mc_store::Tokens;
 use std::alloc::Global;
 
 /// Opens a board of three locks.
 pub(crate) fn open_board(alloc: Global, marks: Marks) -> End {
+    let counts = Counts {
+        stripes: 1,
+        classes: 1,
+        callers: 1,
+    };
     marks.begin();
-    let board = Board::open(alloc, 3);
+    let board = Board::open(alloc, counts);
     marks.end();
     end_by(board)
 }

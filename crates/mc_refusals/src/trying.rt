@@ -15,7 +15,8 @@ use mc_testing::WHO;
 use std::alloc::Global;
 use std::hash::RandomState;
 
-const TURN: Turn = Turn {
+/// When the command is tried, and by whom.
+pub(crate) const TURN: Turn = Turn {
     who: WHO,
     moment: MOMENT,
 };
@@ -43,26 +44,31 @@ fn attempt(stripe: &mut StripeState, class: &mut ClassState, command: &Command, 
     end_of(tried)
 }
 
-// The set that is tried.
-fn set_of(alloc: Global) -> Option<Command> {
+/// Returns the set of a text that is tried.
+pub(crate) fn set_of(alloc: Global, text: &'static str) -> Option<Command> {
     let key = key_of(alloc, b'a').ok()?;
-    command_of(alloc, key, Asked::Store(Verb::Set, "1", 0)).ok()
+    command_of(alloc, key, Asked::Store(Verb::Set, text, 0)).ok()
+}
+
+/// Returns what came of a try, by how it ended, and whether all is as before.
+pub(crate) fn outcome_by(end: End, same: bool) -> Outcome {
+    match end {
+        End::Made => Outcome::Made,
+        End::Other => Outcome::Other,
+        End::Refused if same => Outcome::Same,
+        End::Refused => Outcome::Changed,
+    }
 }
 
 fn compared(stripe: &mut StripeState, class: &mut ClassState, marks: Marks) -> Option<Outcome>
     requires stripe { stripe.old.history ≡ [] }
     requires class { class.old.history ≡ [] }
 {
-    let command = set_of(marks.alloc)?;
+    let command = set_of(marks.alloc, "1")?;
     let before = note_of(marks.alloc, stripe, class);
     let end = attempt(stripe, class, &command, marks);
     let after = note_of(marks.alloc, stripe, class);
-    Some(match end {
-        End::Made => Outcome::Made,
-        End::Other => Outcome::Other,
-        End::Refused if before == after => Outcome::Same,
-        End::Refused => Outcome::Changed,
-    })
+    Some(outcome_by(end, before == after))
 }
 
 fn tried_on(config: &Config, seed: RandomState, marks: Marks) -> Option<Outcome>

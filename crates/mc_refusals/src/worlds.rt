@@ -13,10 +13,10 @@ use mc_testing::World;
 use std::alloc::Global;
 use std::hash::RandomState;
 
-// One stripe, and one class of four chunks of 200 bytes.
-fn config_of(alloc: Global) -> Result<Config, NoMemory> {
-    let sizes = Numbers::from_vec(Vec::from_slice(alloc, &[200])?);
-    let chunks = Numbers::from_vec(Vec::from_slice(alloc, &[4])?);
+// One stripe, and for each of these sizes a class of four chunks.
+fn config_of(alloc: Global, sizes: &[u64]) -> Result<Config, NoMemory> {
+    let chunks = Numbers::from_vec(vec![in alloc; 4; sizes.len()]?);
+    let sizes = Numbers::from_vec(Vec::from_slice(alloc, sizes)?);
     let usual = Config::usual(alloc, 1)?;
     Ok(Config {
         sizes,
@@ -36,12 +36,20 @@ pub(crate) fn checked(config: Config) -> Option<Config>
     }
 }
 
+/// Returns a configuration of one stripe, and for each of these sizes a class of four chunks, where it is sound.
+pub(crate) fn sound_config_for(alloc: Global, sizes: &[u64]) -> Option<Config>
+    ensures sound { IfSome result IsSound }
+    ensures bounded { IfSome result IsBounded }
+{
+    checked(config_of(alloc, sizes).ok()?)
+}
+
 /// Returns a sound configuration of one stripe, and one class of four chunks of 200 bytes.
 pub(crate) fn sound_config(alloc: Global) -> Option<Config>
     ensures sound { IfSome result IsSound }
     ensures bounded { IfSome result IsBounded }
 {
-    checked(config_of(alloc).ok()?)
+    sound_config_for(alloc, &[200])
 }
 
 fn opened(rt: &HostRuntime) -> Option<World> {

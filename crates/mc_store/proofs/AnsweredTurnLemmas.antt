@@ -5,9 +5,10 @@ use Rattle.mc_item.specs.declared.{call_event.CallEvent.CallEvent, class_event.C
 use Rattle.mc_item.specs.declared.{stripe_event.StripeEvent.StripeEvent}
 use Rattle.mc_item.specs.declared.call_event.CallEvent.TheVariants.{Answered, Asked, Crawled, Juggled, Limits}
 use Rattle.mc_item.specs.declared.stripe_event.StripeEvent.TheVariants as events
-use Rattle.mc_store.specs.Callers.{IsCalled, IsNext, answered_at, moment_of, turns_of, who_of}
+use Rattle.mc_board.specs.Accounts.{maker_of, who_of}
+use Rattle.mc_store.specs.Callers.{IsCalled, IsNext, answered_at, moment_of, turns_of}
 use Rattle.mc_store.specs.Finals.{AreClasses, AreItsOwn, AreItsOwnInClasses, AreStripes, FinalView}
-use Rattle.mc_store.specs.{Made.WasCalled, Made.maker_of, Passes.PassView, Sides.ClassSide, Sides.StripeSide}
+use Rattle.mc_store.specs.{Made.WasCalled, Passes.PassView, Sides.ClassSide, Sides.StripeSide}
 use Rattle.mc_store.proofs.NextTurnLemmas.{turn_more}
 
 -- each event was called

@@ -1,6 +1,6 @@
 -- Callers' histories: what was begun in one is begun in each longer one, and the events of stripes stay called.
 use Rattle.std.proofs.Common.{◌≡◌, ◌⊎◌, ◌<◌, ◌+◌, ℕ, zero, suc, List, [], ◌∷◌, ◌++◌, Some, Result, Ok, Err, slice_get, length, append_assoc, refl, sym, ap, ◌∙◌, subst, inl, inr, ⊎_elim, arith}
-use Rattle.std.specs.Prelude.{OnOk, OnErr}
+use Rattle.std.specs.Prelude.{None, OnOk, OnErr}
 use Rattle.std.proofs.lemmas.List.{map-append}
 use mathlib.Core.List.{IsPrefix}
 use Rattle.mc_item.specs.declared.{answer.Site.Site, call_event.CallEvent.CallEvent, class_event.ClassEvent.ClassEvent, config.Config.Config, event.Event.Event}
@@ -9,7 +9,7 @@ use Rattle.mc_item.specs.declared.{class_event.Limited.Limited, command.Command.
 use Rattle.mc_item.specs.declared.{stripe_event.Cause.TheVariants.Expired, stripe_event.Cause.TheVariants.Taken, stripe_event.StripeEvent.StripeEvent}
 use Rattle.mc_item.specs.declared.class_event.ClassEvent.TheVariants as entries
 use Rattle.mc_item.specs.declared.stripe_event.StripeEvent.TheVariants as events
-use Rattle.mc_board.specs.{Histories.Grows, Histories.list_at, Histories.with_seen, Views.SeenView}
+use Rattle.mc_board.specs.{Accounts.maker_in, Accounts.maker_of, Accounts.who_of, Histories.Grows, Histories.list_at, Histories.with_seen, Views.SeenView}
 use Rattle.mc_board.specs.declared.rule.Sight.{Sight}
 use Rattle.mc_board.proofs.SeenLemmas.{list_at_same}
 use Rattle.mc_segment.specs.ClassState.{ClassView}
@@ -18,12 +18,18 @@ use Rattle.mc_stripe.specs.StripeState as states
 use Rattle.mc_pull.specs.{Lone.AreMadeBy, Lone.IsCauseOf, Lone.IsWalkersEvent, Lone.StripeGrows, Walker.Walker}
 use Rattle.mc_pull.specs.Perform as words
 use Rattle.mc_pull.specs.Performed.{IsPerformed, IsUntouched, did_event}
-use Rattle.mc_store.specs.Callers.{AreCalled, IsBegun, IsBegunAs, IsMomentOf, IsCalled, IsNext, IsOf, answered_at, asked_for, call_events, calls_told, limits_of, who_of}
+use Rattle.mc_store.specs.Callers.{AreCalled, IsBegun, IsBegunAs, IsMomentOf, IsCalled, IsNext, IsOf, answered_at, asked_for, call_events, calls_told, limits_of}
 use Rattle.mc_store.specs.Locked.{HasBegun, HasBegunAs, HasBegunCommand, HasBegunSearch, caller_place, locks_for}
-use Rattle.mc_store.specs.Made.{IsClassCalled, IsLimitCalled, WasCalled, maker_of}
+use Rattle.mc_store.specs.Made.{IsClassCalled, IsLimitCalled, WasCalled}
 use Rattle.mc_store.specs.Passes.{CallerView, HasAsked, HasCalled}
 
 -- ---- a caller's history
+
+-- an event of a caller's own history says nobody
+pub says_nobody : (e : Event) → calls_told (call_events (e ∷ [])) ≡ e ∷ [] → maker_in e ≡ None
+says_nobody (Call e) only = refl
+says_nobody (Stripe e) only = absurd (cc only)
+says_nobody (Class e) only = absurd (cc only)
 
 -- the calls of two lists are those of the one, then those of the other
 pub call_events-append : (xs ys : List Event) → call_events (xs ++ ys) ≡ call_events xs ++ call_events ys

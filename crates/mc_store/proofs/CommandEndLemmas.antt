@@ -16,6 +16,9 @@ use Rattle.mc_store.specs.{Callers.answered_at, Calls.IsRepliedAs, Commands.IsCu
 use Rattle.mc_store.specs.{Held.Ends, Held.IsMadeIn, Held.IsWalked, Held.Suffice, Held.nothing, Passes.CallerView, Full.IsFullFor, Sides.StripeSide}
 use Rattle.mc_store.proofs.{CommandLemmas.cache_same, CommandLemmas.fresh_visible, CommandLemmas.led_same, EarnedRefusalLemmas.earned_told}
 use Rattle.mc_store.proofs.FullLemmas.{full_buried, full_same}
+use Rattle.mc_store.proofs.AccountLemmas.{enters_both}
+use Rattle.mc_store.proofs.EnteredLemmas.{Suits}
+use Rattle.mc_store.specs.Trying.{StillTries}
 use Rattle.mc_store.specs.declared.replied.Replied.{Replied}
 use Rattle.mc_store.proofs.UnderLockLemmas.{IsSearched, active_moves, cut_behind, cut_from, replied_behind, replied_from, site_both}
 
@@ -36,12 +39,13 @@ module _ (config : Config) (command : Command) (turn : Turn) where
     pub ends_made : (end : StripeSide) (caller caller_new : CallerView) (reply : Replied) → IsStripeOf config s → KeepsSite mid end.stripe
         → IsMadeIn config mid end caller caller_new command turn reply → EndsBy s end caller caller_new (Ok reply)
     ends_made end caller caller_new reply made_with more made = record {
-      replied = replied_behind config turn.who command turn.moment s mid alive searched end.stripe end.sight made.room reply caller.calls caller_new.calls site made.made_is (ap (λ (x : CallerView). x.calls) made.noted)
+      replied = replied_behind config turn.who command turn.moment s mid alive searched end.stripe end.sight made.room reply caller.calls caller_new.calls site made.made_is made.noted.calls_are
           (earned_told config s.site end.sight turn.who command turn.moment (answer_to mid (call turn.who command turn.moment made.room)).reply made.room made_with.stripes
           (subst (λ (t : Site). IsEarnedIn config t.stripe turn.who turn.moment (key_of command) end.sight made.room) site.site made.earned));
       cut = tt;
       unnoted = tt;
-      number = ap (λ (x : CallerView). x.number) made.noted;
+      number = made.noted.number_is;
+      enters = made.noted.enters;
       site = site_both s mid end.stripe site more;
       full = λ is. absurd (ok_full reply is);
     }
@@ -51,12 +55,13 @@ module _ (config : Config) (command : Command) (turn : Turn) where
 
     -- it was broken off
     pub ends_cut : (end : StripeSide) (caller caller_new : CallerView) (fault : Fault) → KeepsSite mid end.stripe → end.stripe.history ≡ mid.history
-        → caller_new ≡ caller → (fault ≡ HistoryFull → IsFullFor config s end.stripe end.sight command turn.moment) → EndsBy s end caller caller_new (Err fault)
-    ends_cut end caller caller_new fault more same unnoted full = record {
+        → StillTries config command turn caller caller_new → (fault ≡ HistoryFull → IsFullFor config s end.stripe end.sight command turn.moment) → EndsBy s end caller caller_new (Err fault)
+    ends_cut end caller caller_new fault more same still full = record {
       replied = tt;
       cut = cut_behind config turn.who command turn.moment s mid alive searched end.stripe same;
-      unnoted = unnoted;
-      number = ap (λ (x : CallerView). x.number) unnoted;
+      unnoted = still.calls_are;
+      number = still.number_is;
+      enters = still.enters;
       site = site_both s mid end.stripe site more;
       full = λ is. full (err_fault fault HistoryFull is);
     }
@@ -66,27 +71,50 @@ module _ (config : Config) (command : Command) (turn : Turn) where
 
     -- with a fault that was handed on
     pub ends_err : (end : StripeSide) (caller caller_new : CallerView) (r : Result Replied Fault) (fault : Fault) → IsErrAnd r (λ x. x ≡ fault)
-        → KeepsSite mid end.stripe → end.stripe.history ≡ mid.history → caller_new ≡ caller → (fault ≡ HistoryFull → IsFullFor config s end.stripe end.sight command turn.moment)
+        → KeepsSite mid end.stripe → end.stripe.history ≡ mid.history → StillTries config command turn caller caller_new → (fault ≡ HistoryFull → IsFullFor config s end.stripe end.sight command turn.moment)
         → EndsBy s end caller caller_new r
-    ends_err end caller caller_new (Ok reply) fault is more same unnoted full = absurd is
-    ends_err end caller caller_new (Err e) fault is more same unnoted full = ends_cut end caller caller_new e more same unnoted (λ at. full (sym is ∙ at))
+    ends_err end caller caller_new (Ok reply) fault is more same still full = absurd is
+    ends_err end caller caller_new (Err e) fault is more same still full = ends_cut end caller caller_new e more same still (λ at. full (sym is ∙ at))
 
   -- before anything of it happened
   pub ends_early : (s : Stripe) (end : StripeSide) (caller caller_new : CallerView) (r : Result Replied Fault) (fault : Fault) → IsErrAnd r (λ x. x ≡ fault)
-      → KeepsSite s end.stripe → end.stripe.history ≡ s.history → caller_new ≡ caller → (fault ≡ HistoryFull → IsFullFor config s end.stripe end.sight command turn.moment)
+      → KeepsSite s end.stripe → end.stripe.history ≡ s.history → StillTries config command turn caller caller_new → (fault ≡ HistoryFull → IsFullFor config s end.stripe end.sight command turn.moment)
       → EndsBy s end caller caller_new r
-  ends_early s end caller caller_new (Ok reply) fault is site same unnoted full = absurd is
-  ends_early s end caller caller_new (Err e) fault is site same unnoted full = record {
+  ends_early s end caller caller_new (Ok reply) fault is site same still full = absurd is
+  ends_early s end caller caller_new (Err e) fault is site same still full = record {
     replied = tt;
     cut = record { before = []; led_up = inl refl; history_is = same ∙ sym (append-nil s.history) };
-    unnoted = unnoted;
-    number = ap (λ (x : CallerView). x.number) unnoted;
+    unnoted = still.calls_are;
+    number = still.number_is;
+    enters = still.enters;
     site = site;
     full = λ at. full (sym is ∙ err_same e at);
   }
     where
       err_same : (e : Fault) → IsErrOf {T = Replied} (Err e) HistoryFull → e ≡ HistoryFull
       err_same e at = cc at
+
+  -- of a caller that had noted nothing
+  pub ends_still : (s : Stripe) (end : StripeSide) (caller mid caller_new : CallerView) (r : Result Replied Fault) → StillTries config command turn caller mid
+      → EndsBy s end mid caller_new r → EndsBy s end caller caller_new r
+  ends_still s end caller mid caller_new (Ok reply) still ends = record {
+    replied = subst (λ (calls : List CallEvent). IsRepliedAs config turn.who command turn.moment s end.stripe end.sight calls caller_new.calls reply) still.calls_are ends.replied;
+    cut = tt;
+    unnoted = tt;
+    number = ends.number ∙ still.number_is;
+    enters = enters_both (Suits config command) turn.who.turn caller.made mid.made caller_new.made still.enters ends.enters;
+    site = ends.site;
+    full = ends.full;
+  }
+  ends_still s end caller mid caller_new (Err fault) still ends = record {
+    replied = tt;
+    cut = ends.cut;
+    unnoted = ends.unnoted ∙ still.calls_are;
+    number = ends.number ∙ still.number_is;
+    enters = enters_both (Suits config command) turn.who.turn caller.made mid.made caller_new.made still.enters ends.enters;
+    site = ends.site;
+    full = ends.full;
+  }
 
   -- on a stripe of the same history
   module _ (s mid : Stripe) (site : KeepsSite s mid) (same : mid.history ≡ s.history) where
@@ -128,6 +156,7 @@ module _ (config : Config) (command : Command) (turn : Turn) where
       cut = tt;
       unnoted = tt;
       number = ends.number;
+      enters = ends.enters;
       site = site_both s mid end.stripe site ends.site;
       full = λ is. full_same config s mid end.stripe end.sight command turn.moment site same (ends.full is);
     }
@@ -136,6 +165,7 @@ module _ (config : Config) (command : Command) (turn : Turn) where
       cut = cut_same end.stripe ends.cut;
       unnoted = ends.unnoted;
       number = ends.number;
+      enters = ends.enters;
       site = site_both s mid end.stripe site ends.site;
       full = λ is. full_same config s mid end.stripe end.sight command turn.moment site same (ends.full is);
     }
@@ -148,6 +178,7 @@ module _ (config : Config) (command : Command) (turn : Turn) where
       cut = tt;
       unnoted = tt;
       number = ends.number;
+      enters = ends.enters;
       site = site_both s mid end.stripe site ends.site;
       full = λ is. full_buried config turn.who s mid end.stripe end.sight command turn.moment site buried (ends.full is);
     }
@@ -156,6 +187,7 @@ module _ (config : Config) (command : Command) (turn : Turn) where
       cut = cut_from config turn.who command turn.moment s mid site buried end.stripe ends.cut;
       unnoted = ends.unnoted;
       number = ends.number;
+      enters = ends.enters;
       site = site_both s mid end.stripe site ends.site;
       full = λ is. full_buried config turn.who s mid end.stripe end.sight command turn.moment site buried (ends.full is);
     }

@@ -23,13 +23,14 @@ use Rattle.mc_stripe.specs.declared.fate.Fate.TheVariants as fates
 use Rattle.mc_stripe.specs.declared.wanting.Want.TheVariants as wants
 use Rattle.mc_pull.specs.Attempt.{GivesHome, IsNoted, IsReady, LeavesPlaces, OffersHome, OffersOther}
 use Rattle.mc_pull.specs.declared.{attempting.Tried.Tried, attempting.Tried.TheVariants.Made, attempting.Tried.TheVariants.Wants}
-use Rattle.mc_store.specs.{Callers.answered_at, Earned.HasGivenUp, Earned.IsEarnedAt, Earned.IsEarnedIn, Locked.IsLockedClass, Passes.CallerView}
+use Rattle.mc_store.specs.{Earned.HasGivenUp, Earned.IsEarnedAt, Earned.IsEarnedIn, Locked.IsLockedClass, Passes.CallerView}
 use Rattle.mc_store.specs.{Full.HasSeenFull, Full.IsRoomOf, Full.LacksEntries, Full.LacksPlaces, Serving.HasSeenShort}
 use Rattle.mc_store.specs.{Sides.ClassSide, Sides.StripeSide, Sides.class_told, Trying.IsMadeBy, Trying.IsTriedUnder}
-use Rattle.mc_store.specs.Trying.{Stay}
+use Rattle.mc_store.specs.Trying.{Stay, StillTries}
 use Rattle.mc_store.specs.declared.replied.Replied.{Replied}
 use Rattle.mc_store.specs.Held.{IsMadeIn, IsRefusedAt, IsStillFull, IsTriedOn, MayWant, Suffice, WantsAlone, WantsChunk, nothing}
 use Rattle.mc_store.proofs.{CommandLemmas.changes_two, CommandLemmas.link_one, CommandLemmas.not_dead, CommandLemmas.visible_alive, EarnedRefusalLemmas.earned_sees, NeededClassLemmas.fresh_classes}
+use Rattle.mc_store.proofs.EnteredLemmas.{noted_still, tries_both}
 use Rattle.mc_store.proofs.{FullLemmas.full_class, FullLemmas.lacks_grows, FullLemmas.seen_full_grows, ShortHistoryLemmas.short_class, SyncedStepLemmas.any_short}
 
 pub some_none : {A : Type 0} (a : A) (o : Option A) → o ≡ Some a → o ≡ None → ⊥
@@ -67,7 +68,7 @@ module _ (config : Config) (s : Stripe) (own_new : StripeSide) (caller caller_ne
   pub tried_on : ((room : Room) → IsTaken given (row_at s made turn.moment).need room → IsEarnedIn config s.site.stripe turn.who turn.moment (key_of made) own_new.sight room)
       → (Stay cs ds → LacksRoom given (key_of made) (item_of s made) turn.moment (row_at s made turn.moment) → AnyFull)
       → (Stay cs ds → (class : ClassNo) → IsCrowded given (key_of made) (item_of s made) turn.moment (row_at s made turn.moment) class → LacksEntries config s own_new.sight made turn.moment)
-      → (r : Result Tried Fault) → IfOk r (IsTriedUnder s own_new.stripe caller caller_new made turn given cs ds) → IfOk r (IsTriedOn config s own_new caller caller_new made turn home other AnyFull)
+      → (r : Result Tried Fault) → IfOk r (IsTriedUnder config s own_new.stripe caller caller_new made turn given cs ds) → IfOk r (IsTriedOn config s own_new caller caller_new made turn home other AnyFull)
   tried_on earned full short (Ok (Made reply woken)) tried = record { alive = tried.uses.alive; room = tried.room; made_is = tried.made_is; noted = tried.noted; earned = earned tried.room tried.uses.taken }
   tried_on earned full short (Ok (Wants want)) tried = (tried.0, tried.1, may_want full short want tried.2 tried.3)
   tried_on earned full short (Err fault) tried = tt
@@ -382,18 +383,24 @@ earned_now config number turn key v v_new place makes at given_up =
 
 -- a command that was made, of a caller that had noted nothing
 pub made_caller : (config : Config) (s : Stripe) (own_new : StripeSide) (caller mid caller_new : CallerView) (made : Command) (turn : Turn) (replied : Replied)
-    → mid ≡ caller → IsMadeIn config s own_new mid caller_new made turn replied
+    → StillTries config made turn caller mid → IsMadeIn config s own_new mid caller_new made turn replied
     → IsMadeIn config s own_new caller caller_new made turn replied
-made_caller config s own_new caller mid caller_new made turn replied same was = subst (λ (x : CallerView). IsMadeIn config s own_new x caller_new made turn replied) same was
+made_caller config s own_new caller mid caller_new made turn replied still was = record {
+  alive = was.alive;
+  room = was.room;
+  made_is = was.made_is;
+  noted = tries_both config made turn (noted_still config made turn s still) was.noted;
+  earned = was.earned;
+}
 
 -- a command that was made on its stripe alone
 pub made_alone : (config : Config) (s : Stripe) (own_new : StripeSide) (caller mid caller_new : CallerView) (made : Command) (turn : Turn) (replied : Replied)
-    → mid ≡ caller → IsMadeBy s own_new.stripe mid caller_new made turn nothing replied
+    → StillTries config made turn caller mid → IsMadeBy config s own_new.stripe mid caller_new made turn nothing replied
     → IsMadeIn config s own_new caller caller_new made turn replied
-made_alone config s own_new caller mid caller_new made turn replied same by = record {
+made_alone config s own_new caller mid caller_new made turn replied still by = record {
   alive = by.uses.alive;
   room = by.room;
   made_is = by.made_is;
-  noted = by.noted ∙ ap (λ (x : CallerView). record x { calls = x.calls ++ answered_at s.site.stripe (length s.history) ∷ [] }) same;
+  noted = tries_both config made turn (noted_still config made turn s still) by.noted;
   earned = none_earned config s turn (key_of made) own_new.sight nothing (row_at s made turn.moment).need by.room refl by.uses.taken;
 }

@@ -1,13 +1,13 @@
 -- A judgement of a class's entry with its key's stripe, where the class's tokens are apart from it: each call that tells.
-use Rattle.std.proofs.Common.{◌≡◌, ℕ, sym, ap, ◌∙◌, subst}
+use Rattle.std.proofs.Common.{◌≡◌, ◌<◌, ℕ, drop, length, sym, ap, ◌∙◌, subst}
 use Rattle.std.specs.Prelude.{Option, Some, IsSomeAnd}
 use mathlib.Core.List.{IsPrefix}
 use Rattle.atomic_table.specs.Seated.{TableId}
 use Rattle.mc_item.specs.Stripe.{IsLegal}
-use Rattle.mc_item.specs.declared.{answer.Site.Site, config.Config.Config, fault.Fault.Fault}
+use Rattle.mc_item.specs.declared.{answer.Site.Site, config.Config.Config, fault.Fault.Fault, item.Who.Who}
 use Rattle.mc_rule.specs.{Lawful.IsLawfulHistoryByLists, Segment.Rule}
-use Rattle.mc_board.specs.{Histories.Grows, Histories.with_seen, Views.OwnerView, Views.SeenView}
-use Rattle.mc_board.proofs.PrefixLemmas.{prefix_self}
+use Rattle.mc_board.specs.{Accounts.AreBy, Accounts.with_new, Histories.Grows, Histories.with_seen, Views.OwnerView, Views.SeenView}
+use Rattle.mc_board.proofs.{AccountLemmas.are_by_end, PrefixLemmas.prefix_self}
 use Rattle.mc_segment.specs.ClassState.{ClassView, chunks_for}
 use Rattle.mc_stripe.specs.{StripeCalls.KeepsSite, StripeState.Stripe, StripeState.cache_now}
 use Rattle.mc_pull.specs.declared.{judge.Done.Done, looking.Judged.Judged}
@@ -15,13 +15,15 @@ use Rattle.mc_pull.specs.{Agreeing.AgreeNow, Agreeing.KeepsAgreement, Judgement.
 use Rattle.mc_pull.specs.{Question.MayJudge, Question.Question, Refusal.MayFail, Sight.KeepsSight, Walker.Walker}
 use Rattle.mc_pull.specs.Growth as classes
 use Rattle.mc_pull.proofs.NoStrangerLemmas.{known}
-use Rattle.mc_store.specs.{Looked.IsKnown, Locked.IsHeldClass, Locked.IsLockedStripe, Locked.HasBegun, Serving.IsServed, Serving.MayFailSeen}
+use Rattle.mc_store.specs.{Accounts.IsOfWalk, Accounts.StillCalls, Looked.IsKnown, Locked.IsHeldClass, Locked.IsLockedStripe, Locked.HasBegun, Locked.class_lock, Passes.CallerView}
+use Rattle.mc_store.specs.Serving.{IsServed, MayFailSeen}
 use Rattle.mc_store.specs.{Serving.class_side, Sides.StripeSide, Sides.class_told, Sides.stripe_told}
 use Rattle.mc_store.proofs.{VisitedStripeLemmas.judged_listed, LockKeepsLemmas.class_sees, LockKeepsLemmas.site_of_number, LockKeepsLemmas.stripe_sees, CallerLemmas.begun_sees}
+use Rattle.mc_store.proofs.AccountLemmas.{still_both, still_looked, still_walked}
 use Rattle.mc_store.proofs.SyncedStepLemmas.{agree_told, class_stepped, fails_seen, stripe_side, stripe_stepped}
 
 module _ (table : TableId) (config : Config) (own : StripeSide) (own_kept : IsLockedStripe table config own) (s : Stripe) (own_owner : OwnerView) (own_seen : SeenView) (own_is : stripe_side own_owner own_seen s ≡ own)
-    (owner : OwnerView) (seen : SeenView) (c : ClassView) (served : IsServed table config owner seen c)
+    (owner : OwnerView) (seen : SeenView) (c : ClassView) {who : Who} (served : IsServed table config who owner seen c)
     (owner_up owner_told : OwnerView) (up : owner_up ≡ record owner { history = class_told c.history }) (same : owner_told ≡ owner_up)
     (own_heard : SeenView) (told : own_heard ≡ record own_seen { sight = with_seen own_seen.sight owner_up.lock owner_up.history }) (more : Grows own_seen.sight own_heard.sight)
     (own_told : StripeSide) (heard : SeenView) (same_of : own_told ≡ stripe_side own_owner own_heard s) (told_of : heard ≡ record seen { sight = with_seen seen.sight own_owner.lock (stripe_told s.history) })
@@ -55,6 +57,18 @@ module _ (table : TableId) (config : Config) (own : StripeSide) (own_kept : IsLo
 
   agree : AgreeNow c s_lent
   agree = agree_told table config before (class_side owner seen c) before_kept served.kept lent_seen.sight heard.sight told_is told_of_is more_is more_of
+
+  -- the caller's account gained only events of the class and of the stripe: what the board lacked of the class before, and of both after
+  pub still_judged : (caller caller_up caller_mid caller_last : CallerView) (turn from until from' until' from'' until'' : ℕ)
+      → caller_up ≡ record caller { made = with_new caller.made turn owner.lock from until } → caller_mid ≡ record caller_up { made = with_new caller_up.made turn lent_owner.lock from' until' }
+      → caller_last ≡ record caller_mid { made = with_new caller_mid.made turn owner_told.lock from'' until'' } → StillCalls (IsOfWalk config c.number) turn caller caller_last
+  still_judged caller caller_up caller_mid caller_last turn from until from' until' from'' until'' first second third =
+      let Suits = IsOfWalk config c.number in
+      let of : lent_owner.lock < config.stripes = subst (λ (n : ℕ). n < config.stripes) (sym before_kept.lock_is) before_kept.of in
+      let at : owner_told.lock ≡ class_lock config c.number = ap (λ (o : OwnerView). o.lock) (same ∙ up) ∙ served.kept.lock_is in
+      still_both Suits turn caller caller_up caller_last (still_walked config c.number caller caller_up turn owner.lock from until first served.kept.lock_is)
+      (still_both Suits turn caller_up caller_mid caller_last (still_looked config c.number caller_up caller_mid turn lent_owner.lock from' until' second of)
+      (still_walked config c.number caller_mid caller_last turn owner_told.lock from'' until'' third at))
 
   -- what was done with an entry of the stripe is what the stripe tells, which knows it
   pub known_judged : (q : Question) (j : Option Judged) (d : Done) (at : ℕ) → MayJudge c q → HasKeyOf (record { 0 = s_lent.site.stripe }) config c q → d ≡ done_of c (cache_now s_lent) q → j ≡ Some (judgement d at)
@@ -95,12 +109,13 @@ module _ (table : TableId) (config : Config) (own : StripeSide) (own_kept : IsLo
         lent_last.sight last.sight told_new_is told_of_new_is more_new more_of_new w (begun_sees config own_seen.sight lent_seen.sight w.who w.moment more_is begun) walked)
 
     -- the class can be walked on
-    pub class_judged : IsServed table config owner_last last c_new
+    pub class_judged : IsServed table config who owner_last last c_new
     class_judged = record {
       kept = subst (λ (o : OwnerView). IsHeldClass table config (class_side o last c_new)) (sym owner_is)
           (class_stepped table config (record before { sight = lent_seen.sight }) (class_side owner heard c) own_now class_now agree s_new c_new site grows legal lawful agreement still
           lent_last.sight last.sight told_new_is told_of_new_is more_new more_of_new);
       behind = subst (λ (o : OwnerView). IsPrefix o.history (class_told c_new.history)) (sym owner_is) (prefix_self (class_told c_new.history));
+      by = subst (λ (o : OwnerView). AreBy who (drop (length o.history) (class_told c_new.history))) (sym owner_is) (are_by_end who (class_told c_new.history));
       board_is = ap (λ (x : SeenView). x.board) told_of_new ∙ (ap (λ (x : SeenView). x.board) told_of ∙ (served.board_is ∙ ap (λ (o : OwnerView). o.board) (sym owner_is)));
     }
 

@@ -1,3 +1,5 @@
+pub mod AccountLemmas
+pub mod EnteredLemmas
 pub mod CommandLemmas
 pub mod DeadEntryLemmas
 pub mod ShortHistoryLemmas
@@ -14,6 +16,7 @@ mod LimitedClassLemmas
 pub mod LockKeepsLemmas
 mod NextTurnLemmas
 pub mod OwnEventLemmas
+pub mod OwnCallLemmas
 pub mod SyncLemmas
 pub mod NotedRefusalLemmas
 pub mod SyncedLemmas

@@ -5,12 +5,12 @@ use Rattle.atomic_table.specs.Seated.{TableId}
 use Rattle.mc_item.specs.declared.{call_event.CallEvent.CallEvent, class_event.ClassEvent.ClassEvent, config.Config.Config, fault.Fault.Fault, item.ClassNo.ClassNo, item.Who.Who}
 use Rattle.mc_item.specs.declared.fault.Fault.TheVariants.{HistoryFull, NoMemory}
 use Rattle.mc_rule.specs.Lawful.{IsLawfulHistoryByLists}
-use Rattle.mc_board.specs.Histories.{Grows, list_at}
+use Rattle.mc_board.specs.{Accounts.maker_of, Histories.Grows, Histories.list_at}
 use Rattle.mc_board.specs.declared.rule.Sight.{Sight}
 use Rattle.mc_segment.specs.{ClassCalls.Makes, ClassCalls.MayEnd, ClassCalls.Stays, ClassCalls.limited_event, ClassState.ClassView}
 use Rattle.mc_store.specs.Callers.{call_events, calls_told, limits_of, turns_of}
 use Rattle.mc_store.specs.{Calls.HasGained, Calls.IsSeenGrowOf, Locked.IsLockedClass, Locked.caller_place, Locked.locks_for, Passes.CallerView}
-use Rattle.mc_store.specs.Made.{AreCalledInClass, HasNoneMadeBy, IsLimitCalled, WasCalled, maker_of}
+use Rattle.mc_store.specs.Made.{AreCalledInClass, HasNoneMadeBy, IsLimitCalled, WasCalled}
 use Rattle.mc_store.specs.{Serving.MayFailSeen, Sides.ClassSide}
 use Rattle.mc_store.proofs.{CallerLemmas.call_events-told, CallerLemmas.get_append, NotedRefusalLemmas.limited_after, NotedRefusalLemmas.noted_does, NotedRefusalLemmas.noted_grows}
 

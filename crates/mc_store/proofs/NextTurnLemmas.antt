@@ -5,10 +5,10 @@ use Rattle.mc_item.specs.declared.{item.ClassNo.ClassNo, item.Who.Who}
 use Rattle.mc_item.specs.declared.class_event.ClassEvent.TheVariants as entries
 use Rattle.mc_item.specs.declared.stripe_event.StripeEvent.{StripeEvent}
 use Rattle.mc_item.specs.declared.call_event.CallEvent.TheVariants.{Answered, Asked, Crawled, Juggled, Limits}
-use Rattle.mc_board.specs.Histories.{HasSeen, list_at}
+use Rattle.mc_board.specs.{Accounts.maker_of, Accounts.who_of, Histories.HasSeen, Histories.list_at}
 use Rattle.mc_board.specs.declared.rule.Sight.{Sight}
-use Rattle.mc_store.specs.Callers.{AreCalled, HasNoneOf, IsBegun, call_events, calls_told, limits_of, moment_of, turns_of, who_of}
-use Rattle.mc_store.specs.Made.{AreCalledInClass, HasNoneMadeBy, IsLimitCalled, WasCalled, maker_of}
+use Rattle.mc_store.specs.Callers.{AreCalled, HasNoneOf, IsBegun, call_events, calls_told, limits_of, moment_of, turns_of}
+use Rattle.mc_store.specs.Made.{AreCalledInClass, HasNoneMadeBy, IsLimitCalled, WasCalled}
 use Rattle.mc_store.specs.{Locked.caller_place, Locked.locks_for, Passes.CallerView, Passes.next_call}
 use Rattle.mc_store.proofs.CallerLemmas.{begun_prefix, call_events-told, class_called_prefix}
 

@@ -4,7 +4,7 @@ use Rattle.std.specs.Prelude.{remove, slice_index_or}
 use Rattle.std.specs.List.{All}
 use Rattle.std.specs.List.Sorted.{IsNonDecreasingBy}
 use Rattle.std.proofs.lemmas.{List.get_or_default, List.length-append, Option.get_or_from_slice_get, Option.slice_get_within}
-use Rattle.mc_board.specs.Views.{AreOwners, OwnerView}
+use Rattle.mc_board.specs.Views.{AreOwners, OwnerView, new_owner}
 use Rattle.mc_board.proofs.PrefixLemmas.{same_or_not}
 use Rattle.mc_pull.proofs.GrowthLemmas.{slice_get-last}
 use Rattle.atomic_table.specs.Seated.{TableId}
@@ -38,12 +38,12 @@ drop_at {A = A} (y ∷ xs) zero x is = let same : y ≡ x = cc is in ap (λ (z :
 drop_at (y ∷ xs) (suc k) x is = drop_at xs k x is
 
 -- the owner of a place is that of the lock with the place's number
-pub owner_at : (board : TableId) (owners : List OwnerView) (many place k : ℕ) (owner : OwnerView) → AreOwners board many owners → (k < length owners) × (owner ≡ get_or owners k owner) → place ≡ k
-    → (place < many) × (owner ≡ record { board = board; lock = place; history = [] })
-owner_at board owners many place k owner all turn at =
+pub owner_at : (board : TableId) (owners : List OwnerView) (first many place k : ℕ) (owner : OwnerView) → AreOwners board first many owners
+    → (k < length owners) × (owner ≡ get_or owners k owner) → place ≡ k
+    → (place < many) × (owner ≡ new_owner board first place)
+owner_at board owners first many place k owner all turn at =
     let below : place < many = omega (arith, turn.0, all.0, at) in
-    let here : OwnerView = record { board = board; lock = place; history = [] } in
-    (below, turn.1 ∙ get_or_from_slice_get owners k here owner (ap (slice_get owners) (sym at) ∙ all.1 place below))
+    (below, turn.1 ∙ get_or_from_slice_get owners k (new_owner board first place) owner (ap (slice_get owners) (sym at) ∙ all.1 place below))
 
 -- of so many in a list, some are left behind a place
 pub some_left : {A : Type 0} (all items : List A) (k many : ℕ) → items ≡ drop k all → length all ≡ many → k < many → 0 < length items

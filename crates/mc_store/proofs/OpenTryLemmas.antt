@@ -1,5 +1,5 @@
 -- A try of a command whose stripe and classes are out of their locks: what the locks keep behind it.
-use Rattle.std.proofs.Common.{◌≡◌, ◌≢◌, ◌≤◌, ◌<◌, ◌++◌, ◌∷◌, [], ℕ, List, Bool, true, false, Result, Ok, Err, length, refl, sym, ap, ◌∙◌, subst, arith}
+use Rattle.std.proofs.Common.{◌≡◌, ◌≢◌, ◌≤◌, ◌<◌, ◌++◌, ◌∷◌, [], ℕ, List, Bool, true, false, Result, Ok, Err, drop, length, refl, sym, ap, ◌∙◌, subst, arith}
 use Rattle.std.specs.Prelude.{IfOk, OnErr, OnOk}
 use mathlib.Core.List.{IsPrefix}
 use Rattle.atomic_table.specs.Seated.{TableId}
@@ -7,7 +7,7 @@ use Rattle.mc_item.specs.Stripe.{IsLegal}
 use Rattle.mc_item.specs.declared.{answer.Site.Site, command.Command.Command, config.Config.Config, fault.Fault.Fault, fault.Fault.TheVariants.HistoryFull}
 use Rattle.mc_item.specs.declared.stripe_event.StripeEvent.{StripeEvent}
 use Rattle.mc_rule.specs.Lawful.{IsLawfulHistoryByLists}
-use Rattle.mc_board.specs.{Histories.Grows, Histories.list_at, Histories.with_seen, Views.OwnerView, Views.SeenView}
+use Rattle.mc_board.specs.{Accounts.AreBy, Histories.Grows, Histories.list_at, Histories.with_seen, Views.OwnerView, Views.SeenView}
 use Rattle.mc_board.specs.declared.rule.Sight.{Sight}
 use Rattle.mc_board.proofs.PrefixLemmas.{prefix_self}
 use Rattle.mc_segment.specs.ClassState.{ClassView, with_room}
@@ -21,8 +21,14 @@ use Rattle.mc_pull.specs.Question as made
 use Rattle.mc_store.specs.{Callers.AreCalled, Callers.answered_at, Callers.asked_for, Callers.calls_told, Passes.CallerView, Passes.HasAsked, Passes.HasCalled}
 use Rattle.mc_store.specs.Locked.{HasBegunAs, IsHeldClass, IsLockedClass, IsLockedStripe, caller_place, locks_for}
 use Rattle.mc_store.specs.{Performing.IsRefusedIn, Serving.class_side, Sides.ClassSide, Sides.StripeSide, Sides.class_told}
-use Rattle.mc_store.specs.{Sides.stripe_told, Trying.IsTriedUnder, Trying.Stay, Trying.is_made}
+use Rattle.mc_store.specs.{Sides.stripe_told, Trying.IsTriedUnder, Trying.Stay, Trying.StillTries, Trying.is_made, Trying.noted_on}
+use Rattle.mc_board.specs.Accounts.{with_new}
+use Rattle.mc_item.specs.{Command.key_of, Measure.stripe_of}
+use Rattle.mc_item.specs.declared.item.StripeNo.{StripeNo}
+use Rattle.mc_store.proofs.AccountLemmas.{still_asked, still_same}
+use Rattle.mc_store.proofs.EnteredLemmas.{Suits, class_entered, noted_still, stripe_entered, tries_both}
 use Rattle.mc_store.proofs.{SeenStripeLemmas.on_err_both, SeenStripeLemmas.on_err_more, CallerLemmas.called_performed, LentClassLemmas.lent_grow, LentClassLemmas.own_behind}
+use Rattle.mc_store.proofs.OwnCallLemmas.{class_own_by, stripe_performed_by}
 use Rattle.mc_store.proofs.OwnEventLemmas.{GainsFit, gains_performed}
 use Rattle.mc_store.proofs.{OwnEventLemmas.locked_told, OwnEventLemmas.noted_called, LockKeepsLemmas.grows_trans, LockKeepsLemmas.seen_on, LockKeepsLemmas.stripe_sees}
 use Rattle.mc_store.proofs.SyncedLemmas.{lent_more, lent_said, own_more, own_said, stripe_side}
@@ -99,16 +105,34 @@ pub record IsLent (table : TableId) (config : Config) (command : Command) (turn 
   pub backs : BacksStill s.site v w
   pub suits : SuitsStill s.site v w
 
--- the caller has noted where its command was answered, if it was, and this has seen so
+-- what the board lacks of it is of the call
+pub class_by : {table : TableId} {config : Config} {command : Command} {turn : Turn} {s s_new : Stripe} {owner : OwnerView} {seen : SeenView} {v w : ClassView}
+    → IsLent table config command turn s s_new owner seen v w → owner.history ≡ class_told v.history → AreBy turn.who (drop (length owner.history) (class_told w.history))
+class_by {turn = turn} {owner = owner} {v = v} {w = w} lent told = class_own_by turn.who turn.moment owner.history v.history w.history told lent.gains.0
+
+-- the caller has entered the command's events, and noted where it was answered, if it was, and this has seen so
 pub record IsKnown (config : Config) (command : Command) (turn : Turn) (s s_new : Stripe) (t : Result Tried Fault) (sight noting : Sight) (caller caller_new : CallerView) : Type 0 where
   pub more : Grows sight noting
   pub called : AreCalled (locks_for config) config.callers s_new.site.stripe s_new.history (list_at noting.seen)
   pub begun : HasCalled caller_new turn.who turn.moment (asked_for command turn.moment)
-  pub noted : is_made t ≡ true → caller_new ≡ record caller { calls = caller.calls ++ answered_at s.site.stripe (length s.history) ∷ [] }
-  pub unnoted : is_made t ≡ false → caller_new ≡ caller
+  pub noted : is_made t ≡ true → StillTries config command turn (noted_on s caller) caller_new
+  pub unnoted : is_made t ≡ false → StillTries config command turn caller caller_new
 
 module _ {table : TableId} {config : Config} {command : Command} {turn : Turn} {given : Given} {owner : OwnerView} {seen : SeenView} {s s_new : Stripe} {vs ws : List ClassView} {t : Result Tried Fault}
     (step : IsStep table config command turn given owner seen s s_new vs ws t) where
+  -- its caller entered the stripe's events
+  pub entered_stripe : {caller mid : CallerView} (from until : ℕ) → mid ≡ record caller { made = with_new caller.made turn.who.turn owner.lock from until } → StillTries config command turn caller mid
+  entered_stripe {caller = caller} {mid = mid} from until is =
+      let mine : stripe_of (key_of command) config.stripes ≡ record { 0 = s.site.stripe } = subst (λ (n : ℕ). stripe_of (key_of command) n ≡ record { 0 = s.site.stripe }) step.kept.made_with.stripes step.may.stripe in
+      stripe_entered config command turn caller mid owner.lock from until is (step.kept.lock_is ∙ ap (λ (n : StripeNo). n.0) (sym mine))
+
+  -- and then those of a class
+  pub entered_class : {owner_of : OwnerView} {seen_of : SeenView} {v : ClassView} {class : ClassSide} → IsOpenClass table config owner_of seen_of v class → {caller mid last : CallerView}
+      → StillTries config command turn caller mid → (from until : ℕ) → last ≡ record mid { made = with_new mid.made turn.who.turn owner_of.lock from until } → StillTries config command turn caller last
+  entered_class {owner_of = owner_of} {v = v} open_of {caller = caller} {mid = mid} {last = last} still from until is =
+      tries_both config command turn still
+      (class_entered config command turn mid last owner_of.lock from until is v.number open_of.kept.held.lock_is open_of.kept.held.is)
+
   abbrev call_in : Call
   call_in = call_at config s s_new command turn given vs ws t step.tried
 
@@ -138,12 +162,16 @@ module _ {table : TableId} {config : Config} {command : Command} {turn : Turn} {
   pub stripe_lacks : owner.history ≡ stripe_told s.history → IsPrefix owner.history (stripe_told s_new.history)
   stripe_lacks told = own_behind s s_new call_in vs ws owner.history told (result_of t) made_in none_in
 
-  pub known_in : {side own : StripeSide} → IsOpenStripe table config owner seen s side own → {noting : Sight} {caller caller_new : CallerView} {place : ℕ} {done : Bool} → HasAsked caller turn.who command turn.moment
+  -- which are of the call
+  pub stripe_by : owner.history ≡ stripe_told s.history → AreBy turn.who (drop (length owner.history) (stripe_told s_new.history))
+  stripe_by told = stripe_performed_by s s_new call_in vs ws owner.history told (result_of t) made_in none_in
+
+  known_so : {side own : StripeSide} → IsOpenStripe table config owner seen s side own → {noting : Sight} {caller caller_new : CallerView} {place : ℕ} {done : Bool} → HasAsked caller turn.who command turn.moment
       → place ≡ length side.stripe.history → done ≡ is_made t → Grows seen.sight noting → (done ≡ true → caller.number < config.callers)
       → (done ≡ true → list_at noting.seen (caller_place config caller.number) ≡ calls_told caller_new.calls)
       → (done ≡ true → caller_new ≡ record caller { calls = caller.calls ++ answered_at s_new.site.stripe place ∷ [] })
       → (done ≡ false → caller_new ≡ caller) → IsKnown config command turn s s_new t seen.sight noting caller caller_new
-  known_in opened {noting = noting} {caller = caller} {caller_new = caller_new} {place = place} {done = done} asked at_side is more of told noted unnoted =
+  known_so opened {noting = noting} {caller = caller} {caller_new = caller_new} {place = place} {done = done} asked at_side is more of told noted unnoted =
       let at : place ≡ length s.history = at_side ∙ sym (ap (λ (x : StripeSide). length x.stripe.history) opened.side_is) in
       let on = λ (P : Type 0) (f : done ≡ true → P). when P t (λ yes. f (is ∙ yes)) in
       let so = on (caller_new ≡ record caller { calls = caller.calls ++ answered_at s_new.site.stripe place ∷ [] }) noted in
@@ -153,9 +181,28 @@ module _ {table : TableId} {config : Config} {command : Command} {turn : Turn} {
             (on (list_at noting.seen (caller_place config caller.number) ≡ calls_told caller_new.calls) told) so step.kept.called;
         begun = noted_called caller caller_new turn.who command turn.moment s_new.site.stripe place asked (result_of t) so (unless (caller_new ≡ caller) t (λ no. unnoted (is ∙ no)));
         noted = λ yes.
-            noted (is ∙ yes) ∙ ap (λ (x : Site). record caller { calls = caller.calls ++ answered_at x.stripe place ∷ [] }) step.site.site
-            ∙ ap (λ (n : ℕ). record caller { calls = caller.calls ++ answered_at s.site.stripe n ∷ [] }) at;
-        unnoted = λ no. unnoted (is ∙ no);
+            still_same (Suits config command) turn.who.turn (noted_on s caller) caller_new (noted (is ∙ yes)
+            ∙ ap (λ (x : Site). record caller { calls = caller.calls ++ answered_at x.stripe place ∷ [] }) step.site.site
+            ∙ ap (λ (n : ℕ). record caller { calls = caller.calls ++ answered_at s.site.stripe n ∷ [] }) at);
+        unnoted = λ no. still_same (Suits config command) turn.who.turn caller caller_new (unnoted (is ∙ no));
+      }
+
+  -- the board had the events before, in the caller's presence, who has entered them
+  pub known_in : {side own : StripeSide} → IsOpenStripe table config owner seen s side own → {noting : Sight} {caller mid caller_new : CallerView} {place : ℕ} {done : Bool}
+      → StillTries config command turn caller mid
+      → HasAsked caller turn.who command turn.moment → place ≡ length side.stripe.history → done ≡ is_made t → Grows seen.sight noting → (done ≡ true → mid.number < config.callers)
+      → (done ≡ true → list_at noting.seen (caller_place config mid.number) ≡ calls_told caller_new.calls)
+      → (done ≡ true → caller_new ≡ record mid { calls = mid.calls ++ answered_at s_new.site.stripe place ∷ [] })
+      → (done ≡ false → caller_new ≡ mid) → IsKnown config command turn s s_new t seen.sight noting caller caller_new
+  known_in opened {noting = noting} {caller = caller} {mid = mid} {caller_new = caller_new} still asked at_side is more of told noted unnoted =
+      let asked_mid = still_asked (Suits config command) turn.who.turn caller mid turn.who command turn.moment still asked in
+      let known = known_so opened asked_mid at_side is more of told noted unnoted in
+      record {
+        more = known.more;
+        called = known.called;
+        begun = known.begun;
+        noted = λ yes. tries_both config command turn (noted_still config command turn s still) (known.noted yes);
+        unnoted = λ no. tries_both config command turn still (known.unnoted no);
       }
 
 module _ {table : TableId} {config : Config} {command : Command} {turn : Turn} {given : Given} {owner : OwnerView} {seen : SeenView} {s s_new : Stripe} {v w : ClassView} {vs ws : List ClassView} {t : Result Tried Fault}
@@ -257,13 +304,18 @@ module _ {table : TableId} {config : Config} {command : Command} {turn : Turn} {
   left_sees {own = own} {own_new = own_new} {sight = sight} opened left =
       seen_on own seen.sight noting (record { board = owner.board; lock = owner.lock; stripe = s_new; sight = sight }) own_new (ap (λ (x : StripeSide). x.sight) opened.is) known.more left.more left.is
 
-  -- after a fault neither the stripe's history nor the caller has changed
+  -- after a fault the caller has noted nothing
+  pub left_unnoted : {caller_last : CallerView} → caller_last ≡ caller_new → OnErr t (StillTries config command turn caller caller_last)
+  left_unnoted {caller_last = caller_last} same =
+      failed (StillTries config command turn caller caller_last) t (λ no. subst (StillTries config command turn caller) (sym same) (known.unnoted no))
+
+  -- and the stripe's history is as it was
   pub left_err : {side own own_new : StripeSide} {sight : Sight} {caller_last : CallerView} → IsOpenStripe table config owner seen s side own → IsLeft owner s_new noting own_new sight
-      → caller_last ≡ caller_new → OnErr t ((own_new.stripe.history ≡ own.stripe.history) × (caller_last ≡ caller))
+      → caller_last ≡ caller_new → OnErr t ((own_new.stripe.history ≡ own.stripe.history) × StillTries config command turn caller caller_last)
   left_err {caller_last = caller_last} opened left same =
-      on_err_both t _ (caller_last ≡ caller)
+      on_err_both t _ (StillTries config command turn caller caller_last)
       (on_err_more t _ _ (λ (none : IsUntouched s s_new vs ws). ap (λ (x : StripeSide). x.stripe.history) left.is ∙ none.stripe ∙ ap (λ (x : StripeSide). x.stripe.history) opened.is) step.err)
-      (failed (caller_last ≡ caller) t (λ no. same ∙ known.unnoted no))
+      (left_unnoted same)
 
   -- a full history is that of the stripe
   pub left_full : {own_new : StripeSide} {sight : Sight} → IsLeft owner s_new noting own_new sight → (t ≡ Err HistoryFull → s.limit ≤ length s.history) → t ≡ Err HistoryFull
@@ -274,11 +326,11 @@ module _ {table : TableId} {config : Config} {command : Command} {turn : Turn} {
       subst (λ (x : StripeSide). x.stripe.limit ≤ length x.stripe.history) (sym left.is) (omega (arith, refusal full, step.site.limit, long))
 
   pub left_tried : {side own own_new : StripeSide} {sight : Sight} {caller_last : CallerView} → IsOpenStripe table config owner seen s side own → IsLeft owner s_new noting own_new sight → caller_last ≡ caller_new
-      → (cs ds : List ClassSide) → (IsUntouched s s_new vs ws → Stay cs ds) → IfOk t (IsTriedUnder own.stripe own_new.stripe caller caller_last command turn given cs ds)
+      → (cs ds : List ClassSide) → (IsUntouched s s_new vs ws → Stay cs ds) → IfOk t (IsTriedUnder config own.stripe own_new.stripe caller caller_last command turn given cs ds)
   left_tried {own = own} {own_new = own_new} {caller_last = caller_last} opened left same cs ds stay =
-      subst (λ (k : CallerView). IfOk t (IsTriedUnder own.stripe own_new.stripe caller k command turn given cs ds)) (sym same)
-      (subst (λ (x : StripeSide). IfOk t (IsTriedUnder own.stripe x.stripe caller caller_new command turn given cs ds)) (sym left.is)
-      (subst (λ (x : StripeSide). IfOk t (IsTriedUnder x.stripe s_new caller caller_new command turn given cs ds)) opened.is
+      subst (λ (k : CallerView). IfOk t (IsTriedUnder config own.stripe own_new.stripe caller k command turn given cs ds)) (sym same)
+      (subst (λ (x : StripeSide). IfOk t (IsTriedUnder config own.stripe x.stripe caller caller_new command turn given cs ds)) (sym left.is)
+      (subst (λ (x : StripeSide). IfOk t (IsTriedUnder config x.stripe s_new caller caller_new command turn given cs ds)) opened.is
       (under_tried config s s_new command turn given vs ws caller caller_new cs ds t step.tried known.noted known.unnoted stay)))
 
 -- a class that stayed

@@ -6,7 +6,7 @@ use Rattle.atomic_table.specs.Seated.{TableId}
 use Rattle.mc_item.specs.declared.{call_event.CallEvent.CallEvent, class_event.ClassEvent.ClassEvent, class_event.Surveyed.Surveyed, command.Command.Command}
 use Rattle.mc_item.specs.declared.{config.Config.Config, fault.Fault.Fault, item.ClassNo.ClassNo, item.StripeNo.StripeNo, item.Who.Who}
 use Rattle.mc_item.specs.declared.class_event.ClassEvent.TheVariants as events
-use Rattle.mc_board.specs.Histories.{Grows, list_at}
+use Rattle.mc_board.specs.{Accounts.maker_of, Histories.Grows, Histories.list_at}
 use Rattle.mc_board.specs.declared.rule.Sight.{Sight}
 use Rattle.mc_board.proofs.PrefixLemmas.{prefix_self}
 use Rattle.mc_segment.specs.{ClassCalls.Makes, ClassCalls.Stays, ClassCalls.refused_event, ClassState.ClassView, ClassState.with_room}
@@ -24,7 +24,6 @@ use Rattle.mc_crawl.specs.Crawl.{AreReclaims, Reclaims}
 use Rattle.mc_store.specs.Callers.{answered_at, asked_for, call_events, crawling_of, juggling_of}
 use Rattle.mc_store.specs.Locked.{HasBegunAs, HasBegunCommand, IsHeldClass, IsLockedClass, locks_for}
 use Rattle.mc_store.specs.Made.{AreCalledInClass, AreOwnEvents, GainsOwn, IsOwnEvent, NoneSurveys, SearchesOwn, SuitsCall, WalksOwn, WasCalled}
-use Rattle.mc_store.specs.Made.{maker_of}
 use Rattle.mc_store.specs.{Passes.CallerView, Passes.HasAsked, Passes.HasCalled, Sides.ClassSide}
 use Rattle.mc_store.proofs.CallerLemmas.{asked_called, begun_as_more, class_called_prefix, get_append, was_called_so}
 use Rattle.mc_store.proofs.LockKeepsLemmas.{class_sees, grows_trans}

@@ -73,7 +73,7 @@ module _ {table : TableId} {config : Config} {number : ℕ} {old new : StripeSid
       grew = seen_grow ends.site;
       first = first;
       cut = ends.cut;
-      noted = ap (λ (v : CallerView). v.calls) ends.unnoted ∙ asked;
+      noted = ends.unnoted ∙ asked;
       full = λ e. full_grows config old.stripe new.stripe new.sight after command turn.moment grows (ends.full (ap Err e));
     };
   }
@@ -143,7 +143,7 @@ turns_kept {s = s} {caller = caller} {caller_new = caller_new} (Ok reply) ends =
     let is = ends.replied.replied_is.noted in
     let place = ends.replied.replied_is.place in
     ap turns_of is ∙ turns_answered caller.calls s.site.stripe place
-turns_kept (Err fault) ends = ap (λ (v : CallerView). turns_of v.calls) ends.unnoted
+turns_kept (Err fault) ends = ap turns_of ends.unnoted
 
 -- a call is one event, and takes one turn
 pub one_event : (es : List CallEvent) (told : List Event) → calls_told es ≡ told → length told ≡ 1 → length es ≡ 1

@@ -14,8 +14,8 @@ use Rattle.mc_pull.specs.declared.{attempting.Tried.Tried, attempting.Tried.TheV
 use Rattle.mc_pull.specs.{Agreeing.KeepsAgreements, Attempt.GivesHome, Attempt.IsAny, Attempt.IsOffered, Attempt.IsTriedBy, Attempt.OffersHome, Perform.Call}
 use Rattle.mc_pull.specs.{Perform.answer_to, Perform.call, Performed.IsPerformed, Performed.IsUntouched, Sight.KeepsSights}
 use Rattle.mc_pull.proofs.PerformedLemmas.{untouched_kept, untouched_seen}
-use Rattle.mc_store.specs.{Performing.IsOneOf, Performing.IsRefusedIn, Callers.answered_at, Passes.CallerView, Sides.ClassSide, Trying.IsTriedUnder}
-use Rattle.mc_store.specs.{Trying.Stay, Trying.is_made}
+use Rattle.mc_store.specs.{Performing.IsOneOf, Performing.IsRefusedIn, Passes.CallerView, Sides.ClassSide, Trying.IsTriedUnder}
+use Rattle.mc_store.specs.Trying.{Stay, StillTries, is_made, noted_on}
 
 -- what a try came to, where only that it made its command is asked
 abbrev pub result_of : Result Tried Fault → Result (Unit {0}) Fault
@@ -106,8 +106,9 @@ module _ (config : Config) (s s_new : Stripe) (made : Command) (turn : Turn) (gi
 
   -- what it came to under the locks
   module _ (caller caller_new : CallerView) (cs ds : List ClassSide) where
-    pub under_tried : (t : Result Tried Fault) → TriedBy t → (is_made t ≡ true → caller_new ≡ record caller { calls = caller.calls ++ answered_at s.site.stripe (length s.history) ∷ [] })
-        → (is_made t ≡ false → caller_new ≡ caller) → (IsUntouched s s_new vs ws → Stay cs ds) → IfOk t (IsTriedUnder s s_new caller caller_new made turn given cs ds)
+    pub under_tried : (t : Result Tried Fault) → TriedBy t → (is_made t ≡ true → StillTries config made turn (noted_on s caller) caller_new)
+        → (is_made t ≡ false → StillTries config made turn caller caller_new) → (IsUntouched s s_new vs ws → Stay cs ds)
+        → IfOk t (IsTriedUnder config s s_new caller caller_new made turn given cs ds)
     under_tried (Ok (Made reply woken)) tried noted unnoted stay = record {
       room = tried.room;
       fate = tried.fate;

@@ -5,6 +5,7 @@ use Rattle.std.specs.Prelude.{◌≡◌, ◌≢◌, ◌<◌, ◌+◌, ◌-◌, �
 use Rattle.mc_item.specs.declared.{call_event.CallEvent.CallEvent, command.Command.Command, event.Event.Event, event.Event.TheVariants.Call}
 use Rattle.mc_item.specs.declared.{event.Event.TheVariants.Class, event.Event.TheVariants.Stripe, item.ClassNo.ClassNo, item.Who.Who, stripe_event.Cause.Cause}
 use Rattle.mc_item.specs.declared.{stripe_event.Cause.TheVariants.Expired, stripe_event.Cause.TheVariants.Taken, stripe_event.StripeEvent.StripeEvent}
+use Rattle.mc_board.specs.Accounts.{who_of}
 use Rattle.mc_store.specs.declared.placed.Placed.{Placed}
 use Rattle.mc_item.specs.declared.call_event.CallEvent.TheVariants.{Answered, Asked, Crawled, Juggled, Limits}
 use Rattle.mc_item.specs.declared.stripe_event.StripeEvent.TheVariants as events
@@ -114,12 +115,6 @@ pub record IsBegun (calls : List CallEvent) (turn moment : ℕ) : Type 0 where
 pub record IsBegunAs (calls : List CallEvent) (turn moment : ℕ) (call : CallEvent) : Type 0 where
   pub begun : IsBegun calls turn moment
   pub call_is : begun.call ≡ call
-
--- who made an event of a stripe
-abbrev pub who_of : StripeEvent → Who
-who_of (events.Did did) = did.who
-who_of (events.Lost lost) = lost.who
-who_of (events.Cooled cooled) = cooled.who
 
 -- no event of this history of a stripe is of this call
 pub record HasNoneOf (who : Who) (history : List StripeEvent) : Type 0 where

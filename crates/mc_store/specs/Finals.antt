@@ -5,12 +5,13 @@ use Rattle.mc_item.specs.declared.{class_event.ClassEvent.ClassEvent, config.Con
 use Rattle.mc_item.specs.declared.{lists.Entry.Entry, lists.Seg.Seg, item.Who.Who, stripe_event.Did.Did, stripe_event.StripeEvent.StripeEvent}
 use Rattle.mc_item.specs.declared.stripe_event.StripeEvent.TheVariants as events
 use Rattle.mc_item.specs.Measure.{stripe_of}
+use Rattle.mc_board.specs.{Accounts.IsEntered, Accounts.maker_in, Accounts.maker_of, Accounts.who_of}
 use Rattle.mc_board.specs.Histories.{HasFigures, HasNoted, HasSeen}
 use Rattle.mc_board.specs.declared.rule.Sight.{Sight}
 use Rattle.mc_evidence.specs.Setting.{IsClass, Setting, site_in}
 use Rattle.mc_rule.specs.{Belonging.HasEntry, Belonging.HasItem, Lists.found, Lists.lists_of, Lists.times_in, Pairs.item_after}
-use Rattle.mc_store.specs.{Callers.IsCalled, Callers.who_of, Locked.IsClassUnder, Locked.IsStripeUnder, Made.WasCalled, Made.maker_of, Passes.ArePlaced}
-use Rattle.mc_store.specs.{Callers.IsPlace, Passes.IsPlacedIn, Passes.PassView, Passes.caller_of, declared.placed.Placed.Placed}
+use Rattle.mc_store.specs.{Callers.IsCalled, Locked.IsClassUnder, Locked.IsStripeUnder, Made.WasCalled, Passes.ArePlaced}
+use Rattle.mc_store.specs.{Callers.IsPlace, Passes.CallerView, Passes.IsPlacedIn, Passes.PassView, Passes.caller_of, declared.placed.Placed.Placed}
 use Rattle.mc_store.specs.Sides.{ClassSide, StripeSide, class_told, stripe_told}
 
 -- a closed store: its board, and all stripes and all classes in the order of their numbers
@@ -93,3 +94,16 @@ pub record AreJustPlaced (config : Config) (pass : PassView) (stripes : List Str
 pub record AreItsOwnInClasses (pass : PassView) (classes : List ClassSide) : Type 0 where
   pub each : (k : ℕ) (s : ClassSide) (place : ℕ) (event : ClassEvent) → slice_get classes k ≡ Some s → slice_get s.class.history place ≡ Some event
       → (maker_of event).caller ≡ pass.caller → WasCalled pass.calls (record { 0 = k + 1 }) event
+
+-- the caller's account has each event of this lock's history that the caller made, as made in the event's turn
+pub record AreEntered (caller : CallerView) (lock : ℕ) (history : List Event) : Type 0 where
+  pub each : (place : ℕ) (event : Event) (who : Who) → slice_get history place ≡ Some event → maker_in event ≡ Some who
+      → who.caller ≡ caller.number → IsEntered caller.made who.turn lock place
+
+-- the account of the pass's caller has each event of the stripes' and the classes' final histories that the caller made, as made in
+-- the event's turn
+pub record IsAccounted (pass : PassView) (all : List StripeSide) (all_classes : List ClassSide) : Type 0 where
+  pub stripes : (k : ℕ) (s : StripeSide) (place : ℕ) (event : StripeEvent) → slice_get all k ≡ Some s → slice_get s.stripe.history place ≡ Some event
+      → (who_of event).caller ≡ pass.caller → IsEntered pass.made (who_of event).turn s.lock place
+  pub classes : (k : ℕ) (s : ClassSide) (place : ℕ) (event : ClassEvent) → slice_get all_classes k ≡ Some s → slice_get s.class.history place ≡ Some event
+      → (maker_of event).caller ≡ pass.caller → IsEntered pass.made (maker_of event).turn s.lock place

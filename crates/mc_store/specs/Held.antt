@@ -1,5 +1,5 @@
 -- The classes that a command has locked, and one try on them (own).
-use Rattle.std.specs.Prelude.{ℕ, ◌≡◌, ◌<◌, ◌≤◌, ◌+◌, ◌^◌, ◌++◌, ◌∷◌, [], List, Option, Some, None, IfSome, Result, IfOk, OnErr, IsErrOf, length}
+use Rattle.std.specs.Prelude.{ℕ, ◌≡◌, ◌<◌, ◌≤◌, ◌+◌, ◌^◌, ◌++◌, List, Option, Some, None, IfSome, Result, IfOk, OnErr, IsErrOf, length}
 use Rattle.std.specs.{Sync.Mutex.mutex_guard_value, declared.sync.MutexGuard.MutexGuard}
 use Rattle.mc_item.specs.{Command.key_of, Measure.stripe_of, Stripe.IsAlive}
 use Rattle.mc_item.specs.declared.answer.Need.TheVariants as needs
@@ -15,7 +15,8 @@ use Rattle.mc_stripe.specs.declared.wanting.Want.TheVariants as wants
 use Rattle.mc_pull.specs.declared.attempting.Tried.{Tried}
 use Rattle.mc_pull.specs.declared.attempting.Tried.TheVariants as tried
 use Rattle.mc_pull.specs.{Lone.AreMadeBy, Perform.call}
-use Rattle.mc_store.specs.{Callers.answered_at, Calls.IsRepliedAs, Commands.IsCut, Commands.walker_in, Earned.HasGivenUp, Earned.IsEarnedAt, Earned.IsEarnedIn}
+use Rattle.mc_store.specs.Accounts.{Enters, IsOfCommand}
+use Rattle.mc_store.specs.{Calls.IsRepliedAs, Commands.IsCut, Commands.walker_in, Earned.HasGivenUp, Earned.IsEarnedAt, Earned.IsEarnedIn}
 use Rattle.mc_store.specs.{
   Full.HasSeenFull,
   Full.IsFullFor,
@@ -25,8 +26,7 @@ use Rattle.mc_store.specs.{
   Performing.IsMadeOnStripe,
   Serving.HasSeenShort,
 }
-use Rattle.mc_store.specs.Sides.{ClassSide}
-use Rattle.mc_store.specs.Sides.{StripeSide}
+use Rattle.mc_store.specs.{Sides.ClassSide, Sides.StripeSide, Trying.StillTries, Trying.noted_on}
 use Rattle.mc_store.specs.declared.replied.Replied.{Replied}
 
 -- the number of a class
@@ -70,13 +70,14 @@ abbrev pub IsRefusedAt : Config → Stripe → Turn → List ℕ → ClassView �
 IsRefusedAt config s turn key v refused =
     IfSome refused (λ place. IsEarnedAt config (record { 0 = s.site.stripe }) v.number turn.who turn.moment key place v.history)
 
--- a command whose item isn't dead was made in a room, earned if it is a refusal, and its caller has noted the answer's place
+-- a command whose item isn't dead was made in a room, earned if it is a refusal, and its caller has noted the answer's place, and
+-- entered its events
 pub record IsMadeIn (config : Config) (s : Stripe) (own_new : StripeSide) (caller caller_new : CallerView) (made : Command) (turn : Turn)
     (replied : Replied) : Type 0 where
   pub alive : IsAlive (item_of s made) turn.moment
   pub room : Room
   pub made_is : IsMadeOnStripe s own_new.stripe (call turn.who made turn.moment room) replied
-  pub noted : caller_new ≡ record caller { calls = caller.calls ++ answered_at s.site.stripe (length s.history) ∷ [] }
+  pub noted : StillTries config made turn (noted_on s caller) caller_new
   pub earned : IsEarnedIn config s.site.stripe turn.who turn.moment (key_of made) own_new.sight room
 
 -- what a command is given that has locked no class
@@ -102,7 +103,8 @@ abbrev pub IsTriedOn : Config → (s : Stripe) (own_new : StripeSide) (caller ca
 IsTriedOn config s own_new caller caller_new command turn home other AnyFull (tried.Made reply woken) =
     IsMadeIn config s own_new caller caller_new command turn (record { reply = reply; woken = woken })
 IsTriedOn config s own_new caller caller_new command turn home other AnyFull (tried.Wants want) =
-    (own_new.stripe.history ≡ s.history) × (caller_new ≡ caller) × MayWant config s own_new command turn.moment home other AnyFull want
+    (own_new.stripe.history ≡ s.history) × StillTries config command turn caller caller_new
+    × MayWant config s own_new command turn.moment home other AnyFull want
 
 -- a stripe gained only events of the call's walker in this class
 pub record IsWalked (config : Config) (turn : Turn) (class : ClassNo) (s s_new : Stripe) : Type 0 where
@@ -117,12 +119,14 @@ HasGivenUpAny config s turn v =
     → HasGivenUp config (record { 0 = s.site.stripe }) v.number turn.who turn.moment key v.history
 
 -- how a command ends under the lock of its stripe: it was answered, or it was broken off with at most what leads up to it;
--- `HistoryFull` means that a history lacks places for it
+-- `HistoryFull` means that a history lacks places for it; its caller's account gained only events of the command's turn, on locks
+-- that the command may work on
 pub record Ends (config : Config) (s : Stripe) (own_new : StripeSide) (caller caller_new : CallerView) (command : Command) (turn : Turn)
     (result : Result Replied Fault) : Type 0 where
   pub replied : IfOk result (IsRepliedAs config turn.who command turn.moment s own_new.stripe own_new.sight caller.calls caller_new.calls)
   pub cut : OnErr result (IsCut config turn.who command turn.moment s own_new.stripe)
-  pub unnoted : OnErr result (caller_new ≡ caller)
+  pub unnoted : OnErr result (caller_new.calls ≡ caller.calls)
   pub number : caller_new.number ≡ caller.number
+  pub enters : Enters (IsOfCommand config (stripe_of (key_of command) config.stripes).0 command) turn.who.turn caller.made caller_new.made
   pub site : KeepsSite s own_new.stripe
   pub full : IsErrOf result HistoryFull → IsFullFor config s own_new.stripe own_new.sight command turn.moment

@@ -14,18 +14,19 @@ use Rattle.mc_stripe.specs.declared.trying.Turn.{Turn}
 use Rattle.mc_pull.specs.{Advance.MovesIf, Question.question}
 use Rattle.mc_pull.specs.declared.judge.Judge.TheVariants as judges
 use Rattle.mc_store.specs.Locked.{HasBegunAs, setting_of}
-use Rattle.mc_store.specs.{Callers.juggling_of, Headline.answered_did, Sides.ClassSide, Sides.stripe_told, Waking.MakesActive}
+use Rattle.mc_store.specs.{Callers.juggling_of, Headline.answered_did, Passes.CallerView, Sides.ClassSide, Sides.stripe_told, Waking.MakesActive}
 
 -- the queue of a class
 abbrev pub queue_of : ClassNo → ℕ
 queue_of class = class.0 - 1
 
--- a call may work on a class and its queue: the class is of the store and has seen that just this call began, and the hands are
--- for the store's queues
-pub record MayUpkeep (config : Config) (tables : List TableId) (class : ClassSide) (turn : Turn) (hands : HandsView) : Type 0 where
+-- a call of this caller may work on a class and its queue: the class is of the store and has seen that just this call began, and the
+-- hands are for the store's queues
+pub record MayUpkeep (config : Config) (tables : List TableId) (class : ClassSide) (turn : Turn) (hands : HandsView) (caller : CallerView) : Type 0 where
   pub of : IsClass (setting_of config) class.class.number
   pub begun : HasBegunAs config class.sight turn.who turn.moment (juggling_of class.class.number turn.moment)
   pub tables_are : hands.tables ≡ tables
+  pub number : turn.who.caller ≡ caller.number
 
 -- the hands after a hit was offered to a queue
 abbrev pub with_offer : HandsView → ℕ → Hit → HandsView

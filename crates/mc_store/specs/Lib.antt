@@ -4,6 +4,7 @@ pub mod Naming
 pub mod Made
 pub mod Sides
 pub mod Locked
+pub mod Accounts
 pub mod Passes
 pub mod Serving
 pub mod Full

@@ -1,25 +1,14 @@
--- Events of slab classes: who made each, at which moment, and that its caller's history has the call that made it (own).
+-- Events of slab classes: which are of a call, at which moment, and that its caller's history has the call that made it (own).
 use Rattle.std.specs.Prelude.{◌≡◌, ◌≢◌, ◌<◌, ◌+◌, ◌++◌, ℕ, List, [], ◌∷◌, Some, length, slice_get}
 use Rattle.mc_item.specs.declared.{call_event.CallEvent.CallEvent, class_event.ClassEvent.ClassEvent, class_event.Limited.Limited, event.Event.Event}
 use Rattle.mc_item.specs.declared.{item.ClassNo.ClassNo, item.Who.Who}
 use Rattle.mc_item.specs.declared.call_event.CallEvent.TheVariants.{Answered, Asked, Crawled, Juggled, Limits}
 use Rattle.mc_item.specs.declared.class_event.ClassEvent.TheVariants as events
-use Rattle.mc_board.specs.Histories.{Grows}
+use Rattle.mc_board.specs.{Accounts.maker_of, Histories.Grows}
 use Rattle.mc_board.specs.declared.rule.Sight.{Sight}
 use Rattle.mc_item.specs.declared.command.Command.{Command}
 use Rattle.mc_pull.specs.{Growth.LooksForChunk, Suited.MayNeedChunk, Suited.SuitsCommand}
 use Rattle.mc_store.specs.Callers.{IsBegun, IsBegunAs, asked_for, call_events, limits_of, turns_of}
-
--- who made an event of a class
-abbrev pub maker_of : ClassEvent → Who
-maker_of (events.Linked e) = e.who
-maker_of (events.Unlinked e) = e.who
-maker_of (events.Shifted e) = e.who
-maker_of (events.Evicted e) = e.who
-maker_of (events.Reclaimed e) = e.who
-maker_of (events.Surveyed e) = e.who
-maker_of (events.Refused e) = e.who
-maker_of (events.Limited e) = e.who
 
 -- no event of this history of a class is of this call
 pub record HasNoneMadeBy (who : Who) (history : List ClassEvent) : Type 0 where

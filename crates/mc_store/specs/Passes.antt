@@ -2,7 +2,7 @@
 use Rattle.std.specs.Prelude.{◌≡◌, ℕ, ◌<◌, ◌+◌, ◌++◌, ◌∷◌, List, [], Some, IsSomeAnd, length, slice_get}
 use Rattle.mc_item.specs.declared.{call_event.CallEvent.CallEvent, command.Command.Command, config.Config.Config, item.Who.Who}
 use Rattle.mc_board.specs.Histories.{blind}
-use Rattle.mc_board.specs.declared.rule.Sight.{Sight}
+use Rattle.mc_board.specs.declared.{rule.Sight.Sight, rule.Span.Span}
 use Rattle.mc_hits.specs.{Rule.AreBefore, Views.HandsView, Views.untouched_hands}
 use Rattle.atomic_table.specs.Seated.{TableId}
 use Rattle.mc_item.specs.declared.stripe_event.StripeEvent.{StripeEvent}
@@ -10,36 +10,38 @@ use Rattle.mc_item.specs.declared.stripe_event.StripeEvent.TheVariants as events
 use Rattle.mc_store.specs.declared.placed.Placed.{Placed}
 use Rattle.mc_store.specs.Callers.{IsBegunAs, IsPlace, asked_for, turns_of}
 
--- a caller: its number, and its history
+-- a caller: its number, its history, and its account: which events it made on the locks of stripes and classes
 pub record CallerView : Type 0 where
   pub number : ℕ
   pub calls : List CallEvent
+  pub made : List Span
 
--- a pass: its caller, how many turns (calls) it has had, the caller's history, what it has seen and noted of all locks, and the
--- caller's hands in the queues of hits
+-- a pass: its caller, how many turns (calls) it has had, the caller's history, what it has seen and noted of all locks, the
+-- caller's hands in the queues of hits, and the caller's account
 pub record PassView : Type 0 where
   pub caller : ℕ
   pub turn : ℕ
   pub calls : List CallEvent
   pub sight : Sight
   pub hands : HandsView
+  pub made : List Span
 
 -- the caller of a pass
 abbrev pub caller_of : PassView → CallerView
-caller_of pass = record { number = pass.caller; calls = pass.calls }
+caller_of pass = record { number = pass.caller; calls = pass.calls; made = pass.made }
 
 -- the pass of a caller that has seen and noted this, with these hands
 abbrev pub pass_of : CallerView → Sight → HandsView → PassView
 pass_of caller sight hands =
-    record { caller = caller.number; turn = length (turns_of caller.calls); calls = caller.calls; sight = sight; hands = hands }
+    record { caller = caller.number; turn = length (turns_of caller.calls); calls = caller.calls; sight = sight; hands = hands; made = caller.made }
 
 -- who makes a pass's next call: its caller, in its next turn
 abbrev pub next_who : PassView → Who
 next_who pass = record { caller = pass.caller; turn = pass.turn }
 
--- the pass, with hands in these queues, of a caller that has had no turn and seen nothing
+-- the pass, with hands in these queues, of a caller that has had no turn, seen nothing and made no event
 abbrev pub new_pass : List TableId → ℕ → PassView
-new_pass tables caller = record { caller = caller; turn = 0; calls = []; sight = blind; hands = untouched_hands tables caller }
+new_pass tables caller = record { caller = caller; turn = 0; calls = []; sight = blind; hands = untouched_hands tables caller; made = [] }
 
 -- a new pass for each caller, in their order
 pub record ArePasses (tables : List TableId) (callers : ℕ) (passes : List PassView) : Type 0 where

@@ -1,9 +1,10 @@
 -- A class whose tokens are lent apart from it, as on a walk, and histories that were seen to be nearly full (own).
-use Rattle.std.specs.Prelude.{◌≡◌, ◌≢◌, ◌<◌, ◌+◌, ◌⊎◌, ℕ, length}
+use Rattle.std.specs.Prelude.{◌≡◌, ◌≢◌, ◌<◌, ◌+◌, ◌⊎◌, ℕ, drop, length}
 use mathlib.Core.List.{IsPrefix}
 use Rattle.atomic_table.specs.Seated.{TableId}
 use Rattle.mc_item.specs.declared.{config.Config.Config, fault.Fault.Fault, fault.Fault.TheVariants.HistoryFull, fault.Fault.TheVariants.NoMemory}
-use Rattle.mc_board.specs.{Histories.Grows, Histories.NotesStay, Histories.list_at, Views.OwnerView, Views.SeenView}
+use Rattle.mc_item.specs.declared.item.Who.{Who}
+use Rattle.mc_board.specs.{Accounts.AreBy, Histories.Grows, Histories.NotesStay, Histories.list_at, Views.OwnerView, Views.SeenView}
 use Rattle.mc_board.specs.declared.rule.Sight.{Sight}
 use Rattle.mc_segment.specs.ClassState.{ClassView}
 use Rattle.mc_store.specs.{Locked.IsHeldClass, Locked.locks_for, Sides.ClassSide, Sides.class_told}
@@ -12,10 +13,12 @@ use Rattle.mc_store.specs.{Locked.IsHeldClass, Locked.locks_for, Sides.ClassSide
 abbrev pub class_side : OwnerView → SeenView → ClassView → ClassSide
 class_side owner seen c = record { board = owner.board; lock = owner.lock; class = c; sight = seen.sight }
 
--- a class whose tokens are lent apart from it: together they are as `IsHeldClass` says, but the board may lack the last events
-pub record IsServed (board : TableId) (config : Config) (owner : OwnerView) (seen : SeenView) (c : ClassView) : Type 0 where
+-- a class whose tokens are lent apart from it, for this call: together they are as `IsHeldClass` says, but the board may lack the
+-- last events, which are of this call
+pub record IsServed (board : TableId) (config : Config) (who : Who) (owner : OwnerView) (seen : SeenView) (c : ClassView) : Type 0 where
   pub kept : IsHeldClass board config (class_side owner seen c)
   pub behind : IsPrefix owner.history (class_told c.history)
+  pub by : AreBy who (drop (length owner.history) (class_told c.history))
   pub board_is : seen.board ≡ owner.board
 
 -- by what was seen of one of the store's locks, its history has fewer than two places left

@@ -9,41 +9,47 @@ use Rattle.mc_stripe.specs.StripeState.{Stripe}
 use Rattle.mc_pull.specs.declared.{context.Context.Context, looking.Judged.Judged, looking.Look.Look}
 use Rattle.mc_pull.specs.{Growth.GainsEvents, Looks.IsJudgedIf, Looks.events_if, Lone.StripeGrows, Settled.class_with, Walker.Walker}
 use Rattle.mc_pull.specs.Question.{HasKeyOf, IsClassOf, MayJudge, Question, question_of}
-use Rattle.mc_store.specs.{Looked.IsKnown, Locked.HasBegun, Made.SearchesOwn, Made.WalksOwn, Serving.IsServed}
+use Rattle.mc_store.specs.{Looked.IsKnown, Locked.HasBegun, Made.SearchesOwn, Made.WalksOwn, Passes.CallerView, Serving.IsServed, Sides.class_told}
 
--- a call may walk in a class: the class's tokens serve it, and have seen that the call began
-pub record MayWalkWith (board : TableId) (config : Config) (owner : OwnerView) (seen : SeenView) (c : ClassView) (who : Who) (moment : ℕ) : Type 0 where
-  pub served : IsServed board config owner seen c
-  pub begun : HasBegun config seen.sight who moment
-
--- a call may walk in a class in this context: as in `MayWalkWith`, and the context is of the store, as the class is
-pub record MayTry (board : TableId) (config : Config) (context : Context) (owner : OwnerView) (seen : SeenView) (c : ClassView) (who : Who)
+-- a call of this caller may walk in a class: the class's tokens serve it for the call, and have seen that the call began
+pub record MayWalkWith (board : TableId) (config : Config) (caller : CallerView) (owner : OwnerView) (seen : SeenView) (c : ClassView) (who : Who)
     (moment : ℕ) : Type 0 where
+  pub served : IsServed board config who owner seen c
+  pub begun : HasBegun config seen.sight who moment
+  pub number : who.caller ≡ caller.number
+
+-- a call may walk in a class in this context: as in `MayWalkWith`, and the context is of the call, and of the store, as the class is
+pub record MayTry (board : TableId) (config : Config) (context : Context) (caller : CallerView) (owner : OwnerView) (seen : SeenView) (c : ClassView)
+    (who : Who) (moment : ℕ) : Type 0 where
   pub class : IsClassOf context.config.now c
   pub names : context.config.now ≡ config
-  pub served : IsServed board config owner seen c
-  pub begun : HasBegun config seen.sight who moment
+  pub asks : context.turn.who ≡ who
+  pub walks : MayWalkWith board config caller owner seen c who moment
 
--- what a walk of this call leaves: the class's tokens serve it as it is now, and the class gained only events of the call
+-- what a walk of this call leaves: the class's tokens serve it as it is now, the board has all of it, and it gained only events of the
+-- call
 pub record LeavesTokens (board : TableId) (config : Config) (who : Who) (moment : ℕ) (before : Sight) (c : ClassView) (owner : OwnerView) (seen : SeenView)
     (c_new : ClassView) : Type 0 where
   pub grows : GainsEvents c c_new
-  pub served : IsServed board config owner seen c_new
+  pub served : IsServed board config who owner seen c_new
+  pub told : owner.history ≡ class_told c_new.history
   pub walked : WalksOwn who moment before seen.sight c.history c_new.history
 
 -- what a search of this walker leaves: the class's tokens serve it as it is now, its stripe gained only the walker's events, and
 -- so did the class, which gained no survey
 pub record LeavesSearch (board : TableId) (config : Config) (w : Walker) (before : Sight) (c : ClassView) (s : Stripe) (owner : OwnerView) (seen : SeenView)
     (c_new : ClassView) (s_new : Stripe) : Type 0 where
-  pub served : IsServed board config owner seen c_new
+  pub served : IsServed board config w.who owner seen c_new
   pub stripe : StripeGrows w s s_new
   pub searched : SearchesOwn w.who w.moment before seen.sight c.history c_new.history
 
--- a look may be judged with a stripe under locks: the look is of the store, its class's tokens serve the class, its question may be
--- put, the stripe has seen that the call began, and the look isn't judged yet
-pub record MayJudgeUnder (board : TableId) (config : Config) (owner : OwnerView) (seen : SeenView) (look : Look) (stripe : Sight) : Type 0 where
+-- a look of this caller's call may be judged with a stripe under locks: the look is of the store, its class's tokens serve the class
+-- for the call, its question may be put, the stripe has seen that the call began, and the look isn't judged yet
+pub record MayJudgeUnder (board : TableId) (config : Config) (caller : CallerView) (owner : OwnerView) (seen : SeenView) (look : Look)
+    (stripe : Sight) : Type 0 where
   pub of : look.ask.config.now ≡ config
-  pub served : IsServed board config owner seen look.class.now
+  pub number : look.ask.who.caller ≡ caller.number
+  pub served : IsServed board config look.ask.who owner seen look.class.now
   pub may : MayJudge look.class.now (question_of look.ask)
   pub begun : HasBegun config stripe look.ask.who look.ask.moment
   pub once : look.judged ≡ None
@@ -59,6 +65,6 @@ pub record IsJudgedUnder (config : Config) (s : Stripe) (q : Question) (c c_new 
 -- what judging leaves: the class's tokens serve it as it is now and have seen no less, and the stripe gained only the walker's events
 pub record LeavesJudged (board : TableId) (config : Config) (w : Walker) (before : Sight) (s : Stripe) (owner : OwnerView) (seen : SeenView) (c : ClassView)
     (s_new : Stripe) : Type 0 where
-  pub served : IsServed board config owner seen c
+  pub served : IsServed board config w.who owner seen c
   pub stripe : StripeGrows w s s_new
   pub sees : Grows before seen.sight

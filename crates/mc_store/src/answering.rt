@@ -8,6 +8,7 @@ ghost use Rattle.mc_evidence.specs.Setting.{IsClass};
 ghost use Rattle.mc_stripe.specs.{Plan.dead_link, StripeCalls.KeepsSite, StripeState.cache_now};
 ghost use Rattle.mc_stripe.specs.declared.wanting.Want.TheVariants as wants;
 ghost use Rattle.mc_store.specs.{Callers.asked_for, Commands.burial, Full.LacksPlaces, Locked.HasBegunAs, Locked.HasBegunCommand, Locked.setting_of};
+ghost use Rattle.mc_store.specs.{Accounts.IsOfCommand, Accounts.StillCalls};
 ghost use Rattle.mc_store.specs.Held.{Ends, IsCallOn, WantsAlone, class_held};
 
 use crate::caller::Caller;
@@ -93,22 +94,25 @@ fn bury<N: Named>(
     task: Task<'_, N>,
     rt: &impl Wait,
     own: &mut LockedStripe<N>,
+    caller: &mut Caller<N>,
     link: Link,
 ) -> Result<(), Fault>
     requires begun { HasBegunCommand N.config own.old.sight task.turn.who task.turn.moment }
+    requires caller { task.turn.who.caller ≡ caller.old.number }
     requires dead { dead_link ((cache_now own.old.stripe).items (key_of task.command.now)) task.turn.moment ≡ Some link }
     ensures lost { OnOk result (own.new.stripe.history ≡ own.old.stripe.history ++ burial task.entry.turn.who (key_of task.entry.command.now)
         task.entry.turn.moment (Some link)) }
     ensures err { OnErr result (own.new.stripe.history ≡ own.old.stripe.history) }
     ensures sees { Grows own.old.sight own.new.sight }
-    ensures site { KeepsSite own.old.stripe own.new.stripe }
+    ensures same { KeepsSite own.old.stripe own.new.stripe
+        × StillCalls (IsOfCommand N.config own.old.stripe.site.stripe task.entry.command.now) task.entry.turn.who.turn caller.old caller.new }
     ensures full { IsErrOf result HistoryFull → (own.new.stripe.limit < length own.new.stripe.history + 2) ⊎ LacksPlaces N.config own.new.sight link.class 2 }
 {
     let store = task.store;
     own.law();
     let mut guard = store.lock_class(rt, link.class);
     let class = &mut *guard;
-    bury_under(task, own, class, link)
+    bury_under(task, own, class, caller, link)
 }
 
 // Makes a command that wanted this when tried alone: removes its key's dead item, locks the classes that it needs, or both.
@@ -130,7 +134,7 @@ fn answer_want<N: Named>(
     match want {
         Want::Classes(wanted) => answer_with(task, rt, own, caller, wanted),
         Want::Burial(link) => {
-            bury(task, rt, own, link)?;
+            bury(task, rt, own, caller, link)?;
             match try_alone(task, own, caller)? {
                 Tried::Made { reply, woken } => Ok(Replied { reply, woken }),
                 Tried::Wants(left) => match left {

@@ -1,11 +1,13 @@
-//! A caller and its history.
-ghost use Rattle.std.specs.Prelude.{◌≡◌, ◌<◌, ◌≤◌, ◌^◌, ◌++◌, ◌∷◌, ℕ, [], if◌then◌else◌, length, OnOk, OnErr, IsErrOf};
+//! A caller and its history. In its presence the board gets the events that it makes on stripes and classes.
+ghost use Rattle.std.specs.Prelude.{◌≡◌, ◌<◌, ◌≤◌, ◌^◌, ◌++◌, ◌∷◌, ℕ, [], if◌then◌else◌, drop, length, OnOk, OnErr, IsErrOf};
+ghost use mathlib.Core.List.{IsPrefix};
 ghost use Rattle.mc_item.specs.declared.fault.Fault.TheVariants.{HistoryFull};
 ghost use Rattle.mc_item.specs.declared.{call_event.CallEvent.CallEvent, item.Who.Who};
-ghost use Rattle.mc_board.specs.Histories.{list_at, with_seen, Grows, HasSeen};
+ghost use Rattle.mc_board.specs.{Accounts.AreBy, Accounts.IsAccount, Accounts.with_new, Histories.list_at, Histories.with_seen};
+ghost use Rattle.mc_board.specs.{Histories.Grows, Histories.HasSeen, Views.new_owner};
 ghost use Rattle.mc_store.specs.{Callers.HasNoneOf, Callers.IsUnanswered, Callers.answered_at, Callers.call_events, Callers.calls_told, Callers.placed_in};
-ghost use Rattle.mc_store.specs.{Callers.turns_of, Locked.caller_place, Locked.HasBegunAs};
-ghost use Rattle.mc_store.specs.{Made.HasNoneMadeBy, Passes.HasCalled, Passes.next_call};
+ghost use Rattle.mc_store.specs.{Callers.turns_of, Locked.caller_place, Locked.locks_for, Locked.HasBegunAs};
+ghost use Rattle.mc_store.specs.{Made.HasNoneMadeBy, Passes.HasCalled, Passes.next_call, Sides.class_told, Sides.stripe_told};
 
 use crate::locked::{LockedClass, LockedStripe};
 use crate::named::Named;
@@ -13,12 +15,14 @@ use crate::owned_class::OwnedClass;
 use crate::placed::Placed;
 use crate::store::Store;
 use mc_board::{Board, Owner, Seen};
-use mc_item::{Answered, CallEvent, Config, Fault, Logged, StripeNo};
+use mc_item::{Answered, CallEvent, Config, Fault, Logged, StripeNo, Who};
+use mc_segment::ClassState;
+use mc_stripe::StripeState;
 use std::alloc::Global;
 use std::marker::{Model, PhantomData};
 
-/// A caller: its number, the owner of its history on the board, how many turns (calls) it has had, and where its commands were
-/// answered, if the store keeps histories.
+/// A caller: its number, the owner of its history on the board, which has its account too, how many turns (calls) it has had, and
+/// where its commands were answered, if the store keeps histories.
 #[derive(Drop)]
 pub(crate) struct Caller<N: Named> {
     number: u32,
@@ -32,15 +36,16 @@ pub(crate) struct Caller<N: Named> {
 impl<N: Named> Model for Caller<N> {
     ghost use Rattle.std.specs.Prelude.{◌≡◌, ◌<◌, ◌≤◌, ◌+◌, ◌^◌, [], true, if◌then◌else◌, length, vec_capacity, vec_len};
     ghost use Rattle.mc_store.specs.{Callers.IsUnanswered, Callers.call_events, Callers.calls_told, Callers.placed_in, Callers.turns_of};
-    ghost use Rattle.mc_store.specs.{Locked.caller_place, Passes.CallerView};
+    ghost use Rattle.mc_store.specs.{Locked.caller_place, Locked.locks_for, Passes.CallerView};
 
     ghost Value = { CallerView };
 
-    ghost view = { λ c. record { number = c.number; calls = call_events c.owner.history } };
+    ghost view = { λ c. record { number = c.number; calls = call_events c.owner.history; made = c.owner.made } };
 
     ghost invariant = { λ c.
         (c.number < N.config.callers)
         × (c.owner.board ≡ N.board.table)
+        × (c.owner.first ≡ locks_for N.config)
         × (c.owner.lock ≡ caller_place N.config c.number)
         × (c.owner.history ≡ calls_told (call_events c.owner.history))
         × (c.turn ≡ length (turns_of (call_events c.owner.history)))
@@ -58,8 +63,8 @@ impl<N: Named> Caller<N> {
     pub(crate) fn new(alloc: Global, config: &Config, number: u32, owner: Owner) -> Caller<N>
         requires config { (config.now ≡ N.config) × (N.config.max_events ≤ 2 ^ 32) }
         requires of { number < N.config.callers }
-        requires owner { owner ≡ record { board = N.board.table; lock = caller_place N.config number; history = [] } }
-        ensures { result ≡ record { number = number; calls = [] } }
+        requires owner { owner ≡ new_owner N.board.table (locks_for N.config) (caller_place N.config number) }
+        ensures { result ≡ record { number = number; calls = []; made = [] } }
     {
         Caller {
             number,
@@ -136,6 +141,56 @@ impl<N: Named> Caller<N> {
         self.owner.tell(board, seen);
     }
 
+    // Adds to the board the events of the stripe that the board lacks. All are of this call of the caller, whose account gains them.
+    #[inline(always)]
+    pub(crate) fn catch_up_stripe(
+        &mut self,
+        board: &Board,
+        who: Who,
+        state: &StripeState,
+        owner: &mut Owner,
+    )
+        requires board { (owner.old.board ≡ board.now.table) × (board.now.table ≡ N.board.table) }
+        requires behind { IsPrefix owner.old.history (stripe_told state.now.history) }
+        requires by { AreBy who (drop (length owner.old.history) (stripe_told state.now.history)) }
+        requires caller { who.caller ≡ self.old.number }
+        ensures entered { self.new ≡ record self.old {
+          made = with_new self.old.made who.turn owner.old.lock (length owner.old.history) (length state.now.history);
+        } }
+        ensures told { owner.new ≡ record owner.old { history = stripe_told state.now.history } }
+    {
+        owner.catch_up(board, state.history(), who, &mut self.owner);
+    }
+
+    // Adds to the board the events of the class that the board lacks, with the figures that they leave. All are of this call of the
+    // caller, whose account gains them.
+    #[inline(always)]
+    pub(crate) fn catch_up_class(
+        &mut self,
+        board: &Board,
+        who: Who,
+        state: &ClassState,
+        owner: &mut Owner,
+    )
+        requires board { (owner.old.board ≡ board.now.table) × (board.now.table ≡ N.board.table) }
+        requires behind { IsPrefix owner.old.history (class_told state.now.history) }
+        requires by { AreBy who (drop (length owner.old.history) (class_told state.now.history)) }
+        requires caller { who.caller ≡ self.old.number }
+        ensures entered { self.new ≡ record self.old {
+          made = with_new self.old.made who.turn owner.old.lock (length owner.old.history) (length state.now.history);
+        } }
+        ensures told { owner.new ≡ record owner.old { history = class_told state.now.history } }
+    {
+        state.law();
+        owner.publish(
+            board,
+            state.history(),
+            &state.figures(),
+            who,
+            &mut self.owner,
+        );
+    }
+
     // Shows a token the whole history. It has then seen each call that the caller began.
     #[inline(always)]
     fn tell(&mut self, board: &Board, seen: &mut Seen)
@@ -207,11 +262,13 @@ impl<N: Named> Caller<N> {
         self.compare(board, &mut class.side.seen);
     }
 
-    // Compares the history with a token: it has seen a beginning of it. Nothing changes.
+    // Compares the history with a token: it has seen a beginning of it, and of what it has seen, the account has each event that the
+    // caller made. Nothing changes.
     pub(crate) fn compare(&mut self, board: &Board, seen: &mut Seen)
         requires board { (board.now.table ≡ N.board.table) × (seen.old.board ≡ N.board.table) }
         ensures same { (self.new ≡ self.old) × (seen.new ≡ seen.old) }
         ensures behind { HasSeen (calls_told self.old.calls) seen.old.sight (caller_place N.config self.old.number) }
+        ensures account { IsAccount (locks_for N.config) (caller_place N.config self.old.number) self.old.made (list_at seen.old.sight.seen) }
     {
         self.owner.compare(board, seen);
     }

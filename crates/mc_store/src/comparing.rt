@@ -3,8 +3,9 @@ ghost use Rattle.std.specs.Prelude.{◌≡◌, ◌<◌, ℕ, Some, slice_get};
 ghost use Rattle.mc_evidence.specs.Sound.{IsSoundStore};
 ghost use Rattle.mc_board.specs.Histories.{HasSeen};
 ghost use Rattle.mc_store.specs.{Callers.calls_told, Locked.caller_place, Locked.setting_of};
-ghost use Rattle.mc_store.specs.Finals.{AreClasses, AreExactlyEntries, AreStripes, IsBehindClasses, IsBehindStripes, class_histories, stripe_histories};
-ghost use Rattle.mc_store.specs.Sides.{AreClassesOn, AreStripesOn, ClassSide, StripeSide};
+ghost use Rattle.mc_store.specs.Finals.{AreClasses, AreEntered, AreExactlyEntries, AreStripes, IsBehindClasses, IsBehindStripes};
+ghost use Rattle.mc_store.specs.Finals.{class_histories, stripe_histories};
+ghost use Rattle.mc_store.specs.Sides.{AreClassesOn, AreStripesOn, ClassSide, StripeSide, class_told, stripe_told};
 
 use crate::caller::Caller;
 use crate::named::Named;
@@ -36,13 +37,18 @@ pub(crate) fn compare_classes(board: &Board, classes: &mut Vec<OwnedClass>, seen
     }
 }
 
-// Compares a stripe with a caller: the stripe has seen a beginning of the caller's history.
+// Compares a stripe with a caller: the stripe has seen a beginning of the caller's history, and the caller's account has each event
+// of the stripe that the caller made. For the account, a token that has seen the stripe's whole history is compared too.
 fn compare_call<N: Named>(board: &Board, stripe: &mut OwnedStripe, caller: &mut Caller<N>)
     requires board { (board.now.table ≡ N.board.table) × (stripe.old.board ≡ N.board.table) }
     ensures same { (stripe.new ≡ stripe.old) × (caller.new ≡ caller.old) }
     ensures behind { HasSeen (calls_told caller.old.calls) stripe.old.sight (caller_place N.config caller.old.number) }
+    ensures entered { AreEntered caller.old stripe.old.lock (stripe_told stripe.old.stripe.history) }
 {
     caller.compare(board, &mut stripe.seen);
+    let mut whole = stripe.seen.split(board);
+    stripe.owner.tell(board, &mut whole);
+    caller.compare(board, &mut whole);
 }
 
 // The same for each stripe.
@@ -56,19 +62,26 @@ pub(crate) fn compare_calls<N: Named>(
     ensures same { (stripes.new.items ≡ stripes.old.items) × (caller.new ≡ caller.old) }
     ensures behind { (k : ℕ) (s : StripeSide) → slice_get stripes.old.items k ≡ Some s
         → HasSeen (calls_told caller.old.calls) s.sight (caller_place N.config caller.old.number) }
+    ensures entered { (k : ℕ) (s : StripeSide) → slice_get stripes.old.items k ≡ Some s
+        → AreEntered caller.old s.lock (stripe_told s.stripe.history) }
 {
     for i in 0..stripes.len() {
         compare_call(board, &mut stripes[i], caller);
     }
 }
 
-// Compares a class with a caller: the class has seen a beginning of the caller's history.
+// Compares a class with a caller: the class has seen a beginning of the caller's history, and the caller's account has each event of
+// the class that the caller made.
 fn compare_class_call<N: Named>(board: &Board, class: &mut OwnedClass, caller: &mut Caller<N>)
     requires board { (board.now.table ≡ N.board.table) × (class.old.board ≡ N.board.table) }
     ensures same { (class.new ≡ class.old) × (caller.new ≡ caller.old) }
     ensures behind { HasSeen (calls_told caller.old.calls) class.old.sight (caller_place N.config caller.old.number) }
+    ensures entered { AreEntered caller.old class.old.lock (class_told class.old.class.history) }
 {
     caller.compare(board, &mut class.seen);
+    let mut whole = class.seen.split(board);
+    class.owner.tell(board, &mut whole);
+    caller.compare(board, &mut whole);
 }
 
 // The same for each class.
@@ -82,6 +95,8 @@ pub(crate) fn compare_class_calls<N: Named>(
     ensures same { (classes.new.items ≡ classes.old.items) × (caller.new ≡ caller.old) }
     ensures behind { (k : ℕ) (s : ClassSide) → slice_get classes.old.items k ≡ Some s
         → HasSeen (calls_told caller.old.calls) s.sight (caller_place N.config caller.old.number) }
+    ensures entered { (k : ℕ) (s : ClassSide) → slice_get classes.old.items k ≡ Some s
+        → AreEntered caller.old s.lock (class_told s.class.history) }
 {
     for i in 0..classes.len() {
         compare_class_call(board, &mut classes[i], caller);

@@ -5,17 +5,19 @@ ghost use Rattle.mc_evidence.specs.Setting.{IsClass};
 ghost use Rattle.mc_board.specs.Histories.{list_at};
 ghost use Rattle.mc_pull.specs.Growth as classes;
 ghost use Rattle.mc_crawl.specs.CrawlCount.{IsBalanced, MayCount};
+ghost use Rattle.mc_store.specs.Accounts.{Enters, IsOfWalk, StillCalls};
 ghost use Rattle.mc_store.specs.Crawls.{CountsOne, HasCountedLink, IsCrawledBy, IsSeenSound, IsSnapshot, MayCrawl};
 ghost use Rattle.mc_store.specs.{Locked.class_lock, Locked.setting_of, Locked.HasBegunAs, Passes.next_who};
 ghost use Rattle.mc_store.specs.{Sides.class_told, Serving.HasSeenShort, Serving.IsLater, Serving.MayFailSeen, Walking.LeavesTokens, Walking.MayTry};
 ghost use Rattle.mc_store.specs.Callers.{crawling_of, turns_of};
 
+use crate::caller::Caller;
 use crate::gates::Trying;
 use crate::locked::LockedClass;
 use crate::named::Named;
-use crate::owned_class::catch_up_class;
 use crate::pass::Pass;
 use crate::store::Store;
+use crate::task::Call;
 use mc_crawl::{crawl_one, snapshot};
 use mc_item::{CallEvent, ClassNo, Fault, Histogram, Link, Worked};
 use mc_pull::Context;
@@ -34,7 +36,8 @@ struct Crawling {
 
 impl<'a, N: Named> Trying<'a, N> {
     // Crawls one link of a class by `crawl_one`, whose contract is for any gate. This one adds what is true of this gate: it
-    // holds the same references, and the class gains only events of this call.
+    // holds the same references, its caller's account gains only events of the class and of stripes, and the class gains only
+    // events of this call.
     fn crawl(
         &mut self,
         context: Context<'_>,
@@ -42,54 +45,69 @@ impl<'a, N: Named> Trying<'a, N> {
         link: Link,
         histogram: &mut Histogram,
     ) -> Result<(), Fault>
-        requires gate { MayTry N.board.table N.config context self.old.owner.now self.old.seen.now class.old self.old.who self.old.moment }
+        requires gate { MayTry N.board.table N.config context self.old.caller.now self.old.owner.now self.old.seen.now class.old self.old.who
+            self.old.moment }
         requires counts { MayCount histogram.old }
         ensures counted { OnOk result (CountsOne context.entry.config.now class.old class.new context.entry.turn link histogram.old histogram.new) }
         ensures balanced { IsBalanced histogram.old → IsBalanced histogram.new }
         ensures err { OnErr result (class.new.history ≡ class.old.history) }
         ensures fault { IfErr result (MayFailSeen N.config self.new.seen.now.sight class.new) }
-        ensures references { (self.new.owner.ghost_name ≡ self.old.owner.ghost_name) × (self.new.seen.ghost_name ≡ self.old.seen.ghost_name) }
+        ensures references { (self.new.caller.ghost_name ≡ self.old.caller.ghost_name) × (self.new.owner.ghost_name ≡ self.old.owner.ghost_name)
+            × (self.new.seen.ghost_name ≡ self.old.seen.ghost_name)
+            × StillCalls (IsOfWalk N.config class.old.number) context.entry.turn.who.turn self.old.caller.now self.new.caller.now }
         ensures left { LeavesTokens N.board.table N.config context.entry.turn.who context.entry.turn.moment self.old.seen.now.sight class.old
             self.new.owner.now self.new.seen.now class.new }
     {
-        crawl_one(context, class, link, histogram, self)
+        let done = crawl_one(context, class, link, histogram, self);
+        let store = self.store;
+        let who = self.who;
+        Caller::catch_up_class(
+            &mut *self.caller,
+            &store.board,
+            who,
+            class,
+            &mut *self.owner,
+        );
+        done
     }
 }
 
 // Crawls one link of a class under its lock. The lock of the entry's stripe is only tried.
 fn crawl_under<N: Named>(
-    alloc: Global,
-    store: &Store<N>,
+    call: Call<'_, N>,
     class: &mut LockedClass<N>,
     link: Link,
-    turn: Turn,
     histogram: &mut Histogram,
+    caller: &mut Caller<N>,
 ) -> Result<(), Fault>
-    requires begun { HasBegunAs N.config class.old.sight turn.who turn.moment (crawling_of class.old.class.number turn.moment) }
+    requires begun { HasBegunAs N.config class.old.sight call.turn.who call.turn.moment (crawling_of class.old.class.number call.turn.moment) }
+    requires caller { call.turn.who.caller ≡ caller.old.number }
     requires counts { MayCount histogram.old }
-    ensures counted { OnOk result (CountsOne N.config class.old.class class.new.class turn link histogram.old histogram.new) }
+    ensures counted { OnOk result (CountsOne N.config class.old.class class.new.class call.entry.turn link histogram.old histogram.new) }
     ensures balanced { IsBalanced histogram.old → IsBalanced histogram.new }
     ensures class { classes.GainsEvents class.old.class class.new.class }
+    ensures still { StillCalls (IsOfWalk N.config class.old.class.number) call.entry.turn.who.turn caller.old caller.new }
     ensures fault { IfErr result (MayFailSeen N.config class.new.sight class.new.class) }
 {
-    let mut answers = Vec::new(alloc);
+    let store = call.store;
+    let who = call.turn.who;
+    let mut answers = Vec::new(call.alloc);
     let side = &mut class.side;
     let mut gate = Trying {
         store,
+        caller: &mut *caller,
         owner: &mut side.owner,
         seen: &mut side.seen,
         answers: &mut answers,
-        who: turn.who,
-        moment: turn.moment,
+        who,
+        moment: call.turn.moment,
     };
     let context = Context {
-        alloc,
-        turn,
+        alloc: call.alloc,
+        turn: call.turn,
         config: &store.config,
     };
-    let done = gate.crawl(context, &mut side.state, link, histogram);
-    catch_up_class(&side.state, &mut side.owner, &store.board);
-    done
+    gate.crawl(context, &mut side.state, link, histogram)
 }
 
 impl<N: Named> Store<N> {
@@ -118,7 +136,7 @@ impl<N: Named> Store<N> {
         Ok(links)
     }
 
-    // Crawls one link of a class under its lock, for which it waits.
+    // Crawls one link of a class under its lock, for which it waits. The events that it makes are of the class and of stripes.
     fn crawl_link(
         &self,
         rt: &impl Wait,
@@ -133,15 +151,21 @@ impl<N: Named> Store<N> {
         ensures counted { OnOk result (HasCountedLink N.config crawling.class pass.old.sight pass.new.sight crawling.turn link histogram.old histogram.new) }
         ensures sound { IsSeenSound N.config crawling.class pass.new.sight }
         ensures grows { IsLater pass.old.sight pass.new.sight }
-        ensures same { pass.new ≡ record pass.old { sight = pass.new.sight } }
+        ensures same { (pass.new ≡ record pass.old { sight = pass.new.sight; made = pass.new.made })
+            × Enters (IsOfWalk N.config crawling.class) crawling.turn.who.turn pass.old.made pass.new.made }
         ensures full { IsErrOf result HistoryFull → HasSeenShort N.config pass.new.sight }
     {
         let Crawling { alloc, class, turn } = crawling;
+        let call = Call {
+            alloc,
+            store: self,
+            turn,
+        };
         let mut guard = self.lock_class(rt, class);
         let own = &mut *guard;
         own.side.compare(&self.board, &mut pass.seen);
         pass.caller.tell_class(&self.board, own);
-        let done = crawl_under(alloc, self, own, link, turn, histogram);
+        let done = crawl_under(call, own, link, histogram, &mut pass.caller);
         own.side.share(&self.board, &mut pass.seen);
         done
     }
@@ -149,7 +173,7 @@ impl<N: Named> Store<N> {
     /// Crawls a class, and returns a histogram that counts each of its links as one kind, at most 2^32 links.
     /// It takes a snapshot of the links under the class's lock, then looks at each link under the lock again. It waits for the
     /// class's lock, and only tries those of stripes. It removes an item that is dead at `moment`, with its entry. `moment` is
-    /// the time in whole seconds.
+    /// the time in whole seconds. The events that it makes are of this class and of stripes.
     /// After a fault what happened so far stays. `HistoryFull` comes only if a stripe's or class's history has fewer than two
     /// places left, or the pass has had `max_events` turns. `NoMemory` comes if an allocation fails.
     pub fn crawl(
@@ -170,6 +194,7 @@ impl<N: Named> Store<N> {
         ensures cut { OnErr result ((pass.new ≡ pass.old) ⊎ (pass.new.calls ≡ pass.old.calls ++ crawling_of class moment ∷ [])) }
         ensures turn { (pass.new.turn ≡ length (turns_of pass.new.calls)) × OnOk result (pass.new.turn ≡ pass.old.turn + 1) }
         ensures full { IsErrOf result HistoryFull → HasSeenShort N.config pass.new.sight ⊎ (N.config.max_events ≤ pass.old.turn) }
+        ensures account { Enters (IsOfWalk N.config class) pass.old.turn pass.old.made pass.new.made }
     {
         let event = CallEvent::Crawled(Worked { class, moment });
         let who = pass.take_turn(self, &event)?;

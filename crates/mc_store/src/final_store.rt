@@ -1,6 +1,7 @@
 //! A closed store.
 ghost use Rattle.std.specs.Prelude.{◌≡◌, ◌<◌, ◌≤◌, ◌-◌, length, slice_index_or};
-ghost use Rattle.mc_store.specs.Finals.{AreClasses, AreItsOwn, AreItsOwnInClasses, AreJustPlaced, AreStripes, IsBehindClasses, IsBehindStripes};
+ghost use Rattle.mc_store.specs.Finals.{AreClasses, AreItsOwn, AreItsOwnInClasses, AreJustPlaced, AreStripes, IsAccounted};
+ghost use Rattle.mc_store.specs.Finals.{IsBehindClasses, IsBehindStripes};
 ghost use Rattle.mc_store.specs.Sides.{AreClassesOn, AreStripesOn, ClassSide, StripeSide};
 
 use crate::comparing::{compare_calls, compare_class_calls, compare_classes, compare_stripes};
@@ -65,7 +66,8 @@ impl Final {
     /// Compares the closed store with a pass of it. Nothing changes. Allocates nothing and never waits.
     /// The pass has seen a beginning of each stripe's and class's final history, and noted at most its length. Figures that it noted
     /// are those of the history's first so many events. Each event in these histories that names the pass's caller belongs to a call
-    /// in the caller's history. The caller's commands in them are just those at the places that its history gives.
+    /// in the caller's history. The caller's commands in them are just those at the places that its history gives. The caller's
+    /// account has each event in these histories that the caller made.
     pub fn compare<N: Named>(&mut self, pass: &mut Pass<N>)
         requires board { self.old.board ≡ N.board.table }
         ensures same { (self.new ≡ self.old) × (pass.new ≡ pass.old) }
@@ -74,6 +76,7 @@ impl Final {
         ensures own { AreStripes N.board.table N.config self.old.stripes → AreItsOwn pass.old self.old.stripes }
         ensures placed { AreStripes N.board.table N.config self.old.stripes → AreJustPlaced N.config pass.old self.old.stripes }
         ensures own_in_classes { AreClasses N.board.table N.config self.old.classes → AreItsOwnInClasses pass.old self.old.classes }
+        ensures account { IsAccounted pass.old self.old.stripes self.old.classes }
     {
         let seen = &mut pass.seen;
         compare_stripes(&self.board, &mut self.stripes, seen);

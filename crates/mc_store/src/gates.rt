@@ -3,8 +3,10 @@ ghost use Rattle.std.specs.Prelude.{◌≡◌, ◌≢◌, ◌≤◌, ◌+◌, Li
 ghost use Rattle.mc_pull.specs.{Growth.GainsEvents, Growth.GainsFor, Juggle.IsJuggle, Rounds.IsRoom, Rounds.rounds_by};
 ghost use Rattle.mc_pull.specs.Walker.{walker_by};
 ghost use Rattle.mc_pull.specs.declared.looking.Answer.{Answer};
-ghost use Rattle.mc_store.specs.{Earned.IsSearchInVain, Looked.IsOfCall, Serving.MayFailSeen, Walking.LeavesSearch, Walking.LeavesTokens, Walking.MayTry};
+ghost use Rattle.mc_store.specs.{Accounts.IsOfWalk, Accounts.StillCalls, Earned.IsSearchInVain, Looked.IsOfCall, Serving.MayFailSeen};
+ghost use Rattle.mc_store.specs.Walking.{LeavesSearch, LeavesTokens, MayTry};
 
+use crate::caller::Caller;
 use crate::judging::judge;
 use crate::locked::LockedStripe;
 use crate::named::Named;
@@ -22,10 +24,12 @@ fn is_numbered<N: Named>(own: &LockedStripe<N>, number: StripeNo) -> bool
 
 /// A gate for one call (`who`, at `moment`). It tries the lock of each stripe that is asked for, and passes the entry if the lock
 /// isn't free, or if another call asks.
-/// It holds the owner and token of the class that is walked, and a list for its answers. The token has seen that the call began.
+/// It holds the call's caller, the owner and token of the class that is walked, and a list for its answers. The token has seen that
+/// the call began.
 #[derive(Drop)]
 pub(crate) struct Trying<'a, N: Named> {
     pub(crate) store: &'a Store<N>,
+    pub(crate) caller: &'a mut Caller<N>,
     pub(crate) owner: &'a mut Owner,
     pub(crate) seen: &'a mut Seen,
     pub(crate) answers: &'a mut Vec<Answer>,
@@ -45,39 +49,55 @@ impl<'a, N: Named> Trying<'a, N> {
 
 impl<'a, N: Named> Trying<'a, N> {
     // Juggles a class by `juggle`, whose contract is for any gate. This one adds what is true of this gate: it holds the same
-    // references, and the class gains only events of this call.
+    // references, its caller's account gains only events of the class and of stripes, and the class gains only events of this call,
+    // all of which the board then has.
     pub(crate) fn juggle(
         &mut self,
         context: Context<'_>,
         class: &mut ClassState,
     ) -> Result<Moves, Fault>
-        requires gate { MayTry N.board.table N.config context self.old.owner.now self.old.seen.now class.old self.old.who self.old.moment }
+        requires gate { MayTry N.board.table N.config context self.old.caller.now self.old.owner.now self.old.seen.now class.old self.old.who
+            self.old.moment }
         ensures juggle { IfOk result (λ moves. (xs : List Answer) × IsJuggle (rounds_by class.old context.entry) class.old.history xs class.new.history moves) }
         ensures few { IfOk result (λ moves. moves.reclaimed + moves.moved ≤ 10000) }
         ensures gains { GainsFor false class.old class.new }
         ensures fault { IfErr result (MayFailSeen N.config self.new.seen.now.sight class.new) }
-        ensures references { (self.new.owner.ghost_name ≡ self.old.owner.ghost_name) × (self.new.seen.ghost_name ≡ self.old.seen.ghost_name) }
+        ensures references { (self.new.caller.ghost_name ≡ self.old.caller.ghost_name) × (self.new.owner.ghost_name ≡ self.old.owner.ghost_name)
+            × (self.new.seen.ghost_name ≡ self.old.seen.ghost_name) }
+        ensures still { StillCalls (IsOfWalk N.config class.old.number) context.entry.turn.who.turn self.old.caller.now self.new.caller.now }
         ensures left { LeavesTokens N.board.table N.config context.entry.turn.who context.entry.turn.moment self.old.seen.now.sight class.old
             self.new.owner.now self.new.seen.now class.new }
     {
-        juggle(context, class, self)
+        let moves = juggle(context, class, self);
+        let store = self.store;
+        let who = self.who;
+        Caller::catch_up_class(
+            &mut *self.caller,
+            &store.board,
+            who,
+            class,
+            &mut *self.owner,
+        );
+        moves
     }
 }
 
 impl<'a, N: Named> Gate for Trying<'a, N> {
     ghost use Rattle.std.specs.Prelude.{◌≡◌, ◌∷◌, []};
-    ghost use Rattle.mc_store.specs.{Locked.HasBegun, Made.WalksOwn, Serving.IsServed, Serving.MayFailSeen};
+    ghost use Rattle.mc_store.specs.{Accounts.IsOfWalk, Accounts.StillCalls, Locked.HasBegun, Made.WalksOwn, Serving.IsServed, Serving.MayFailSeen};
 
     ghost answers = { λ g. g.answers.now.items };
 
-    ghost serves = { λ g config c. (config ≡ N.config) × IsServed N.board.table N.config g.owner.now g.seen.now c
-        × HasBegun N.config g.seen.now.sight g.who g.moment };
+    ghost serves = { λ g config who c. (config ≡ N.config) × IsServed N.board.table N.config who g.owner.now g.seen.now c
+        × HasBegun N.config g.seen.now.sight g.who g.moment × (g.who.caller ≡ g.caller.now.number) };
 
-    ghost references = { λ g. g.owner.ghost_name ∷ g.seen.ghost_name ∷ [] };
+    ghost references = { λ g. g.caller.ghost_name ∷ g.owner.ghost_name ∷ g.seen.ghost_name ∷ [] };
 
     ghost faults = { λ g c. MayFailSeen N.config g.seen.now.sight c };
 
-    ghost keeps = { λ w g begun h history. (h.who ≡ g.who) × (h.moment ≡ g.moment) × WalksOwn w.who w.moment g.seen.now.sight h.seen.now.sight begun history };
+    ghost keeps = { λ w g begun h history. (h.who ≡ g.who) × (h.moment ≡ g.moment)
+        × WalksOwn w.who w.moment g.seen.now.sight h.seen.now.sight begun history
+        × StillCalls (IsOfWalk N.config w.class) w.who.turn g.caller.now h.caller.now };
 
     fn visit(&mut self, stripe: StripeNo, look: &mut Look<'_>) -> Result<bool, Fault> {
         self.answers.reserve(1)?;
@@ -104,7 +124,14 @@ impl<'a, N: Named> Gate for Trying<'a, N> {
             return Ok(false);
         }
         own.learn(&store.board, &mut *self.seen);
-        judge(&store.board, own, &mut *self.owner, &mut *self.seen, look)?;
+        judge(
+            &store.board,
+            own,
+            &mut *self.caller,
+            &mut *self.owner,
+            &mut *self.seen,
+            look,
+        )?;
         self.answers.push_reserved(Answer {
             stripe,
             judged: look.judged,
@@ -123,21 +150,23 @@ pub(crate) struct Holding<'a, 'b, N: Named> {
 impl<'a, 'b, N: Named> Gate for Holding<'a, 'b, N> {
     ghost use Rattle.std.specs.Prelude.{◌≡◌, ◌∷◌, []};
     ghost use Rattle.mc_pull.specs.Lone.{StripeGrows};
-    ghost use Rattle.mc_store.specs.{Looked.HasLooked, Looked.IsOfCall, Locked.HasBegun, Made.SearchesOwn, Serving.IsServed, Serving.MayFailSeen};
+    ghost use Rattle.mc_store.specs.{Accounts.IsOfWalk, Accounts.StillCalls, Looked.HasLooked, Looked.IsOfCall, Locked.HasBegun, Made.SearchesOwn};
+    ghost use Rattle.mc_store.specs.Serving.{IsServed, MayFailSeen};
 
     ghost answers = { λ g. g.others.answers.now.items };
 
-    ghost serves = { λ g config c. (config ≡ N.config) × IsServed N.board.table N.config g.others.owner.now g.others.seen.now c
-        × HasBegun N.config g.others.seen.now.sight g.others.who g.others.moment };
+    ghost serves = { λ g config who c. (config ≡ N.config) × IsServed N.board.table N.config who g.others.owner.now g.others.seen.now c
+        × HasBegun N.config g.others.seen.now.sight g.others.who g.others.moment × (g.others.who.caller ≡ g.others.caller.now.number) };
 
-    ghost references = { λ g. g.own.ghost_name ∷ g.others.owner.ghost_name ∷ g.others.seen.ghost_name ∷ [] };
+    ghost references = { λ g. g.own.ghost_name ∷ g.others.caller.ghost_name ∷ g.others.owner.ghost_name ∷ g.others.seen.ghost_name ∷ [] };
 
     ghost faults = { λ g c. MayFailSeen N.config g.others.seen.now.sight c };
 
     ghost keeps = { λ w g begun h history. StripeGrows w g.own.now.stripe h.own.now.stripe
         × (IsOfCall w g.others.who g.others.moment → IsOfCall w h.others.who h.others.moment
         × HasLooked N.config.stripes w g.own.now.stripe g.others.answers.now.items h.others.answers.now.items begun history)
-        × SearchesOwn w.who w.moment g.others.seen.now.sight h.others.seen.now.sight begun history };
+        × SearchesOwn w.who w.moment g.others.seen.now.sight h.others.seen.now.sight begun history
+        × StillCalls (IsOfWalk N.config w.class) w.who.turn g.others.caller.now h.others.caller.now };
 
     fn visit(&mut self, stripe: StripeNo, look: &mut Look<'_>) -> Result<bool, Fault> {
         if !self.lends(stripe, look) {
@@ -151,6 +180,7 @@ impl<'a, 'b, N: Named> Gate for Holding<'a, 'b, N> {
         judge(
             &store.board,
             own,
+            &mut *others.caller,
             &mut *others.owner,
             &mut *others.seen,
             look,
@@ -175,19 +205,22 @@ impl<'a, 'b, N: Named> Holding<'a, 'b, N> {
     }
 
     // Makes room in a class by `make_room`, whose contract is for any gate. This one adds what is true of this gate: it holds the
-    // same references, its stripe and the class gain only events of this call and no survey, and a search that finds no chunk has tried.
+    // same references, its caller's account gains only events of the class and of stripes, its stripe and the class gain only
+    // events of this call and no survey, and a search that finds no chunk has tried.
     pub(crate) fn make_room(
         &mut self,
         context: Context<'_>,
         class: &mut ClassState,
     ) -> Result<bool, Fault>
-        requires gate { MayTry N.board.table N.config context self.old.others.owner.now self.old.others.seen.now class.old self.old.others.who
-            self.old.others.moment }
+        requires gate { MayTry N.board.table N.config context self.old.others.caller.now self.old.others.owner.now self.old.others.seen.now class.old
+            self.old.others.who self.old.others.moment }
         ensures room { IfOk result (λ found. (xs : List Answer) × IsRoom (rounds_by class.old context.entry) class.old.history xs class.new.history found) }
         ensures grows { GainsEvents class.old class.new }
         ensures fault { IfErr result (MayFailSeen N.config self.new.others.seen.now.sight class.new) }
-        ensures references { (self.new.own.ghost_name ≡ self.old.own.ghost_name) × (self.new.others.owner.ghost_name ≡ self.old.others.owner.ghost_name)
-            × (self.new.others.seen.ghost_name ≡ self.old.others.seen.ghost_name) }
+        ensures references { (self.new.own.ghost_name ≡ self.old.own.ghost_name) × (self.new.others.caller.ghost_name ≡ self.old.others.caller.ghost_name)
+            × (self.new.others.owner.ghost_name ≡ self.old.others.owner.ghost_name) × (self.new.others.seen.ghost_name ≡ self.old.others.seen.ghost_name) }
+        ensures still { StillCalls (IsOfWalk N.config class.old.number) context.entry.turn.who.turn self.old.others.caller.now
+            self.new.others.caller.now }
         ensures left { LeavesSearch N.board.table N.config (walker_by class.old context.entry) self.old.others.seen.now.sight class.old
             self.old.own.now.stripe self.new.others.owner.now self.new.others.seen.now class.new self.new.own.now.stripe }
         ensures tried { IfOk result (λ found. found ≡ false → IsOfCall (walker_by class.old context.entry) self.old.others.who self.old.others.moment →

@@ -4,12 +4,12 @@ ghost use Rattle.mc_item.specs.Command.{key_of};
 ghost use Rattle.mc_item.specs.declared.answer.Need.TheVariants as needs;
 ghost use Rattle.mc_item.specs.declared.fault.Fault.TheVariants.{HistoryFull};
 ghost use Rattle.mc_board.specs.Histories.{Grows};
-ghost use Rattle.mc_pull.specs.Attempt.{IsReady};
+ghost use Rattle.mc_pull.specs.{Attempt.IsReady, Suited.MayNeedChunk};
 ghost use Rattle.mc_rule.specs.Lists.{IsFull};
 ghost use Rattle.mc_segment.specs.ClassState.{with_room};
 ghost use Rattle.mc_stripe.specs.StripeCalls.{KeepsSite};
 ghost use Rattle.mc_store.specs.Held.{Ends, HasGivenUpAny, IsCallOn, IsRefusedAt, IsStillFull, IsTriedOn, IsWalked, Suffice, WantsChunk, class_held};
-ghost use Rattle.mc_store.specs.{Callers.asked_for, Full.HasSeenFull, Locked.HasBegunAs, Locked.HasBegunSearch, Serving.HasSeenShort};
+ghost use Rattle.mc_store.specs.{Callers.asked_for, Full.HasSeenFull, Locked.HasBegunAs, Locked.HasBegunSearch, Serving.HasSeenShort, Trying.StillTries};
 
 use crate::caller::Caller;
 use crate::locked::{LockedClass, LockedStripe};
@@ -45,7 +45,8 @@ fn try_other<N: Named>(
     requires called { IsCallOn N.config own.old.stripe caller.old task.command.now task.turn }
     ensures tried { IfOk result (IsTriedOn N.config own.old.stripe own.new caller.old caller.new task.entry.command.now task.entry.turn None (Some
         other.old.class.number) ⊥) }
-    ensures err { OnErr result ((own.new.stripe.history ≡ own.old.stripe.history) × (caller.new ≡ caller.old)) }
+    ensures err { OnErr result ((own.new.stripe.history ≡ own.old.stripe.history)
+        × StillTries N.config task.entry.command.now task.entry.turn caller.old caller.new) }
     ensures sees { Grows own.old.sight own.new.sight }
     ensures site { KeepsSite own.old.stripe own.new.stripe }
     ensures full { IsErrOf result HistoryFull → own.new.stripe.limit ≤ length own.new.stripe.history }
@@ -78,7 +79,8 @@ pub(crate) fn try_home<N: Named>(
     ensures tried { IfOk result (IsTriedOn N.config own.old.stripe own.new caller.old caller.new task.entry.command.now task.entry.turn (Some
         home.old.class.number) (class_held other.old) (IsStillFull N.config own.new.sight refused home.old.class home.new.class × (class_held other.new ≡
         class_held other.old) × WantsChunk home.old.class.number (class_held other.old) own.old.stripe task.entry.command.now task.entry.turn.moment)) }
-    ensures err { OnErr result ((own.new.stripe.history ≡ own.old.stripe.history) × (caller.new ≡ caller.old)) }
+    ensures err { OnErr result ((own.new.stripe.history ≡ own.old.stripe.history)
+        × StillTries N.config task.entry.command.now task.entry.turn caller.old caller.new) }
     ensures sees { Grows own.old.sight own.new.sight }
     ensures site { KeepsSite own.old.stripe own.new.stripe }
     ensures full { IsErrOf result HistoryFull → own.new.stripe.limit ≤ length own.new.stripe.history }
@@ -111,16 +113,18 @@ pub(crate) fn try_home<N: Named>(
     }
 }
 
-// Looks for a chunk in the class of a new version, if none is free.
+// Looks for a chunk in the class of a new version, if none is free, for a command that may need one.
 fn search<N: Named>(
     task: Task<'_, N>,
     own: &mut LockedStripe<N>,
     home: &mut LockedClass<N>,
+    caller: &mut Caller<N>,
 ) -> Result<(), Fault>
-    requires begun { HasBegunSearch N.config own.old.sight task.turn.who task.turn.moment }
+    requires begun { HasBegunSearch N.config own.old.sight task.turn.who task.turn.moment × (task.turn.who.caller ≡ caller.old.number)
+        × MayNeedChunk task.command.now }
     ensures tried { OnOk result (IsFull home.new.class.chunks home.new.class.history → HasGivenUpAny N.config own.old.stripe task.entry.turn home.new.class) }
     ensures walked { IsWalked N.config task.entry.turn home.old.class.number own.old.stripe own.new.stripe }
-    ensures number { home.new.class.number ≡ home.old.class.number }
+    ensures same { (home.new.class.number ≡ home.old.class.number) × StillTries N.config task.entry.command.now task.entry.turn caller.old caller.new }
     ensures begun { HasBegunSearch N.config own.new.sight task.entry.turn.who task.entry.turn.moment }
     ensures site { KeepsSite own.old.stripe own.new.stripe }
     ensures seen { (own.new ≡ own.old) ⊎ HasSeenFull N.config own.new.sight home.old.class.number }
@@ -129,7 +133,7 @@ fn search<N: Named>(
     if !home.side().state().is_full() {
         return Ok(());
     }
-    make_room_under(task, own, home)?;
+    make_room_under(task, own, home, caller)?;
     Ok(())
 }
 
@@ -150,12 +154,12 @@ pub(crate) fn answer_at_home<N: Named>(
 {
     let store = task.store;
     own.law();
-    search(task, own, home)?;
+    search(task, own, home, caller)?;
     match try_home(task, own, home, other, caller, None)? {
         Tried::Made { reply, woken } => Ok(Replied { reply, woken }),
         Tried::Wants(want) => match want {
             Want::Room => {
-                let place = refuse(&store.board, own, home, task.turn.who)?;
+                let place = refuse(&store.board, own, home, task.turn.who, caller)?;
                 match try_home(task, own, home, other, caller, Some(place))? {
                     Tried::Made { reply, woken } => Ok(Replied { reply, woken }),
                     Tried::Wants(_) => Err(Fault::HistoryFull),

@@ -2,42 +2,46 @@
 ghost use Rattle.std.specs.Prelude.{◌≡◌, IfErr, OnOk, OnErr};
 ghost use Rattle.mc_segment.specs.ClassState.{with_room};
 ghost use Rattle.mc_pull.specs.{Question.question_of, Walker.walker_of};
-ghost use Rattle.mc_store.specs.{Serving.MayFailSeen, Walking.IsJudgedUnder, Walking.LeavesJudged, Walking.MayJudgeUnder};
+ghost use Rattle.mc_store.specs.{Accounts.IsOfWalk, Accounts.StillCalls, Serving.MayFailSeen};
+ghost use Rattle.mc_store.specs.Walking.{IsJudgedUnder, LeavesJudged, MayJudgeUnder};
 
+use crate::caller::Caller;
 use crate::locked::LockedStripe;
 use crate::named::Named;
-use crate::owned_class::catch_up_class;
-use crate::owned_stripe::catch_up_stripe;
 use mc_board::{Board, Owner, Seen};
 use mc_item::Fault;
 use mc_pull::Look;
 
 // Judges the entry of a look with its key's stripe, whose lock is held. The tokens of the entry's class are lent apart from the
-// class. Syncs the views of class and stripe before and after, also after a fault.
+// class. Syncs the views of class and stripe before and after, also after a fault. The events are of the caller's call, and its
+// account gains only events of these two.
 pub(crate) fn judge<N: Named>(
     board: &Board,
     stripe: &mut LockedStripe<N>,
+    caller: &mut Caller<N>,
     owner: &mut Owner,
     seen: &mut Seen,
     look: &mut Look<'_>,
 ) -> Result<(), Fault>
     requires board { board.now ≡ N.board }
-    requires look { MayJudgeUnder N.board.table N.config owner.old seen.old look.old stripe.old.sight }
+    requires look { MayJudgeUnder N.board.table N.config caller.old owner.old seen.old look.old stripe.old.sight }
     ensures same_reference { look.new.class.ghost_name ≡ look.old.class.ghost_name }
+    ensures still { StillCalls (IsOfWalk N.config look.old.class.now.number) look.old.ask.who.turn caller.old caller.new }
     ensures judged { OnOk result (IsJudgedUnder N.config stripe.old.stripe (question_of look.old.ask) look.old.class.now look.new.class.now look.new.judged) }
     ensures err { OnErr result (look.new.class.now ≡ with_room look.old.class.now look.new.class.now.room) }
     ensures left { LeavesJudged N.board.table N.config (walker_of look.old.class.now look.old.ask.who look.old.ask.moment) seen.old.sight stripe.old.stripe
         owner.new seen.new look.new.class.now stripe.new.stripe }
     ensures fault { IfErr result (MayFailSeen N.config seen.new.sight look.new.class.now) }
 {
-    catch_up_class(look.class, owner, board);
+    let who = look.ask.who;
+    caller.catch_up_class(board, who, look.class, owner);
     owner.tell(board, &mut stripe.side.seen);
     stripe.side.tell(board, seen);
     let done = look.settle(&mut stripe.side.state);
     look.class.law();
     stripe.side.state.history();
-    catch_up_stripe(&stripe.side.state, &mut stripe.side.owner, board);
-    catch_up_class(look.class, owner, board);
+    caller.catch_up_stripe(board, who, &stripe.side.state, &mut stripe.side.owner);
+    caller.catch_up_class(board, who, look.class, owner);
     owner.tell(board, &mut stripe.side.seen);
     stripe.side.tell(board, seen);
     done?;

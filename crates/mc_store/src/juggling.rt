@@ -2,6 +2,7 @@
 ghost use Rattle.std.specs.Prelude.{◌≡◌, ◌≤◌, ◌⊎◌, ◌+◌, ◌-◌, IfOk, OnOk, IsErrOf, ◌++◌, ◌∷◌, [], OnErr, length};
 ghost use Rattle.mc_item.specs.declared.fault.Fault.TheVariants.{HistoryFull};
 ghost use Rattle.mc_evidence.specs.Setting.{IsClass};
+ghost use Rattle.mc_store.specs.Accounts.{Enters, IsOfWalk};
 ghost use Rattle.mc_store.specs.{Callers.juggling_of, Callers.turns_of, Calls.IsJuggledBy, Hits.Takes, Hits.queue_of, Locked.setting_of, Serving.HasSeenShort};
 ghost use Rattle.mc_store.specs.Serving.{IsLater};
 
@@ -9,6 +10,7 @@ use crate::named::Named;
 use crate::pass::Pass;
 use crate::store::Store;
 use crate::taking::upkeep_under;
+use crate::task::Call;
 use mc_item::{CallEvent, ClassNo, Fault, Moves, Worked};
 use mc_stripe::Turn;
 use std::alloc::Global;
@@ -18,7 +20,8 @@ impl<N: Named> Store<N> {
     /// Juggles a class (the LRU maintainer's work), and returns how many entries it reclaimed and moved, at most 10000 in all.
     /// It waits for the class's lock, and only tries those of stripes: an entry is passed if its stripe's lock isn't free.
     /// First it takes up to 256 hits from the class's queue. It moves the entry of each from COLD to WARM, if the item is still
-    /// ACTIVE and alive; these moves aren't counted. `moment` is the time in whole seconds.
+    /// ACTIVE and alive; these moves aren't counted. `moment` is the time in whole seconds. The events that the call makes are of
+    /// this class and of stripes.
     /// After a fault what happened so far stays. `HistoryFull` comes only if a stripe's or class's history has fewer than two
     /// places left, or the pass has had `max_events` turns. `NoMemory` comes if an allocation fails.
     pub fn juggle(
@@ -39,6 +42,7 @@ impl<N: Named> Store<N> {
         ensures cut { OnErr result ((pass.new ≡ pass.old) ⊎ (pass.new.calls ≡ pass.old.calls ++ juggling_of class moment ∷ [])) }
         ensures turn { (pass.new.turn ≡ length (turns_of pass.new.calls)) × OnOk result (pass.new.turn ≡ pass.old.turn + 1) }
         ensures full { IsErrOf result HistoryFull → HasSeenShort N.config pass.new.sight ⊎ (N.config.max_events ≤ pass.old.turn) }
+        ensures account { Enters (IsOfWalk N.config class) pass.old.turn pass.old.made pass.new.made }
     {
         let event = CallEvent::Juggled(Worked { class, moment });
         let mut guard = self.lock_class(rt, class);
@@ -46,8 +50,12 @@ impl<N: Named> Store<N> {
         let who = pass.take_turn_in(self, &event, own)?;
         own.side.compare(&self.board, &mut pass.seen);
         pass.caller.tell_class(&self.board, own);
-        let turn = Turn { who, moment };
-        let moves = upkeep_under(alloc, self, rt, own, &mut pass.hands, turn);
+        let call = Call {
+            alloc,
+            store: self,
+            turn: Turn { who, moment },
+        };
+        let moves = upkeep_under(call, rt, own, &mut pass.hands, &mut pass.caller);
         own.side.share(&self.board, &mut pass.seen);
         moves
     }

@@ -8,11 +8,11 @@ ghost use Rattle.mc_item.specs.declared.{stripe_event.Lost.Lost};
 ghost use Rattle.mc_item.specs.declared.stripe_event.StripeEvent.TheVariants as events;
 ghost use Rattle.mc_rule.specs.{Figures.figures_of_lists, Lists.lists_of, Pairs.item_after, Places.Stands};
 ghost use Rattle.mc_evidence.specs.{Losses.AreNoCommands, Losses.IsSameItem, Losses.WasLost, Setting.IsClass, Setting.site_in, Sound.IsSoundStore};
-ghost use Rattle.mc_board.specs.Histories.{Grows};
+ghost use Rattle.mc_board.specs.{Accounts.maker_of, Accounts.who_of, Histories.Grows};
 ghost use Rattle.mc_board.specs.declared.rule.{Note.Note, Sight.Sight};
 ghost use Rattle.mc_store.specs.{Calls.IsRepliedBy, Headline.IsBorneOut, Locked.class_lock, Locked.setting_of, Passes.PassView};
-ghost use Rattle.mc_store.specs.Callers.{HasNoAnswer, IsBegun, IsCalled, moment_of, turns_of, who_of};
-ghost use Rattle.mc_store.specs.{Made.IsBegunForChunk, Made.WasCalled, Made.maker_of, Sides.ClassSide, Sides.StripeSide};
+ghost use Rattle.mc_store.specs.Callers.{HasNoAnswer, IsBegun, IsCalled, moment_of, turns_of};
+ghost use Rattle.mc_store.specs.{Made.IsBegunForChunk, Made.WasCalled, Sides.ClassSide, Sides.StripeSide};
 ghost use Rattle.mc_store.specs.Finals.{AreClasses, AreItsOwn, AreItsOwnInClasses, AreStripes, FinalView, HasNoDid};
 ghost use Rattle.mc_store.specs.Finals.{IsBehindClasses, IsBehindStripes, class_histories, stripe_histories};
 

@@ -1,7 +1,7 @@
 //! Opening a store.
-ghost use Rattle.std.specs.Prelude.{◌≡◌, ◌≤◌, ◌<◌, ◌+◌, ◌-◌, ◌^◌, [], IfOk};
+ghost use Rattle.std.specs.Prelude.{◌≡◌, ◌≤◌, ◌<◌, ◌+◌, ◌-◌, ◌^◌, IfOk};
 ghost use Rattle.mc_item.specs.Config.{IsBounded, IsSound};
-ghost use Rattle.mc_board.specs.Histories.{blind};
+ghost use Rattle.mc_board.specs.{Histories.blind, Views.new_owner};
 ghost use Rattle.mc_hits.specs.Views.{tables_of, untouched_hands};
 ghost use Rattle.mc_store.specs.{Locked.histories_for, Locked.locks_for, Opening.AreParts, Passes.ArePasses, Passes.new_pass};
 
@@ -35,7 +35,7 @@ fn open_stripe<N: Named>(
 ) -> LockedStripe<N>
     requires config { (config.now ≡ N.config) × IsBounded N.config × IsSound N.config }
     requires number { number < N.config.stripes }
-    requires owner { owner ≡ record { board = N.board.table; lock = number; history = [] } }
+    requires owner { owner ≡ new_owner N.board.table (locks_for N.config) number }
     requires seen { seen.board ≡ N.board.table }
 {
     let state = StripeState::new(alloc, StripeNo(number), config, seed);
@@ -52,7 +52,7 @@ fn open_class<N: Named>(
 ) -> LockedClass<N>
     requires config { (config.now ≡ N.config) × IsBounded N.config × IsSound N.config }
     requires lock { (N.config.stripes ≤ lock) × (lock < locks_for N.config) }
-    requires owner { owner ≡ record { board = N.board.table; lock = lock; history = [] } }
+    requires owner { owner ≡ new_owner N.board.table (locks_for N.config) lock }
     requires seen { seen.board ≡ N.board.table }
 {
     let number = (lock - config.stripes as usize) as u32 + 1;
@@ -60,7 +60,8 @@ fn open_class<N: Named>(
     LockedClass::new(OwnedClass::new(state, owner, seen))
 }
 
-// The pass of the caller whose history has this place on the board, after the locks. It has had no turn and seen nothing.
+// The pass of the caller whose history has this place on the board, after the locks. It has had no turn, seen nothing and made no
+// event.
 fn open_pass<N: Named>(
     alloc: Global,
     config: &Config,
@@ -71,7 +72,7 @@ fn open_pass<N: Named>(
 ) -> Pass<N>
     requires config { (config.now ≡ N.config) × IsBounded N.config }
     requires place { (locks_for N.config ≤ place) × (place < histories_for N.config) }
-    requires owner { owner ≡ record { board = N.board.table; lock = place; history = [] } }
+    requires owner { owner ≡ new_owner N.board.table (locks_for N.config) place }
     requires seen { seen ≡ record { board = N.board.table; sight = blind } }
     requires hands { hands ≡ untouched_hands (tables_of N.queues) (place - locks_for N.config) }
     ensures { result ≡ new_pass (tables_of N.queues) (place - locks_for N.config) }
@@ -81,7 +82,7 @@ fn open_pass<N: Named>(
 }
 
 // How many locks a configuration asks for: one for each stripe and each class.
-pub(crate) fn locks_in(config: &Config) -> usize
+fn locks_in(config: &Config) -> usize
     requires { IsBounded config.now }
     ensures { result ≡ locks_for config.now }
 {
@@ -108,7 +109,7 @@ fn shelf_for<N: Named>(alloc: Global, config: &Config) -> Result<Shelf<N>, NoMem
 }
 
 impl<N: Named> Store<N> {
-    /// Opens a store without events, and returns it with a pass for each caller, which has seen nothing.
+    /// Opens a store without events, and returns it with a pass for each caller, which has seen nothing and made no event.
     /// The configuration has been checked. The board has as many histories as the store needs: stripes first, then classes, then
     /// callers. Each class has a queue of hits, and each caller has its hands in them. Keys are hashed with the seed, on which no
     /// reply depends. The memory that closing needs is reserved here. Errors: `NoMemory` if an allocation fails.

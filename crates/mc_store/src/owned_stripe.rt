@@ -1,6 +1,5 @@
 //! A stripe with its tokens of the board: its owner, and what it has seen.
 ghost use Rattle.std.specs.Prelude.{◌≡◌, [], length};
-ghost use mathlib.Core.List.{IsPrefix};
 ghost use Rattle.mc_board.specs.Histories.{list_at, with_seen, Grows};
 ghost use Rattle.mc_store.specs.{Finals.IsBehindAt, Sides.class_told, Sides.stripe_told, Serving.GrowsBut, Serving.IsLater};
 
@@ -11,7 +10,8 @@ use mc_stripe::StripeState;
 use std::marker::Model;
 
 /// A stripe, its history's owner on the board, and a token with what it has seen of all locks. The board has its whole history.
-/// The parts can be lent apart: the stripe to a walk, and the tokens to the gate of that walk. The owner catches up afterwards.
+/// The parts can be lent apart: the stripe to a walk, and the tokens to the gate of that walk. The owner catches up afterwards
+/// (`Caller::catch_up_stripe`).
 #[derive(Drop)]
 pub(crate) struct OwnedStripe {
     pub(crate) owner: Owner,
@@ -30,16 +30,6 @@ impl Model for OwnedStripe {
     ghost invariant = { λ s.
         (s.owner.history ≡ stripe_told s.state.history)
         × (s.seen.board ≡ s.owner.board) };
-}
-
-// Adds to the board the events of the stripe that the board lacks.
-#[inline(always)]
-pub(crate) fn catch_up_stripe(state: &StripeState, owner: &mut Owner, board: &Board)
-    requires board { owner.old.board ≡ board.now.table }
-    requires behind { IsPrefix owner.old.history (stripe_told state.now.history) }
-    ensures { owner.new ≡ record owner.old { history = stripe_told state.now.history } }
-{
-    owner.catch_up(board, state.history());
 }
 
 impl OwnedStripe {

@@ -9,12 +9,11 @@ ghost use Rattle.mc_board.specs.Histories.{Grows, list_at};
 ghost use Rattle.mc_pull.specs.{Agreeing.AgreeNow, Perform.call};
 ghost use Rattle.mc_pull.specs.Growth as classes;
 ghost use Rattle.mc_store.specs.{Callers.IsUnanswered, Callers.answered_at, Callers.calls_told, Locked.HasBegunSearch, Locked.caller_place};
-ghost use Rattle.mc_store.specs.Sides.{class_told};
+ghost use Rattle.mc_store.specs.{Accounts.IsClassLock, Accounts.StillCalls, Sides.class_told};
 
 use crate::caller::Caller;
 use crate::locked::{LockedClass, LockedStripe};
 use crate::named::Named;
-use crate::owned_class::catch_up_class;
 use mc_board::{Board, Seen};
 use mc_item::{Fault, Who};
 use mc_stripe::StripeState;
@@ -41,19 +40,20 @@ pub(crate) fn refuse<N: Named>(
     own: &mut LockedStripe<N>,
     lent: &mut LockedClass<N>,
     who: Who,
+    caller: &mut Caller<N>,
 ) -> Result<u64, Fault>
     requires board { board.now ≡ N.board }
-    requires begun { (moment : ℕ) × HasBegunSearch N.config own.old.sight who moment }
+    requires begun { ((moment : ℕ) × HasBegunSearch N.config own.old.sight who moment) × (who.caller ≡ caller.old.number) }
     requires full { IsFull lent.old.class.chunks lent.old.class.history }
     ensures place { IfOk result (λ place. place ≡ length lent.old.class.history) }
     ensures refused { OnOk result (Makes lent.old.class lent.new.class (refused_event who)) }
     ensures err { OnErr result (Stays lent.old.class lent.new.class) }
-    ensures own { own.new ≡ own.old }
+    ensures same { (own.new ≡ own.old) × StillCalls (IsClassLock N.config) who.turn caller.old caller.new }
     ensures full { IsErrOf result HistoryFull → lent.new.class.max_events ≤ length lent.new.class.history }
 {
     let place = lent.side.state.refuse(who);
     lent.side.state.law();
-    catch_up_class(&lent.side.state, &mut lent.side.owner, board);
+    caller.catch_up_class(board, who, &lent.side.state, &mut lent.side.owner);
     lent.side.learn(board, &mut own.side);
     place
 }

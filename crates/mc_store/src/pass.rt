@@ -15,8 +15,8 @@ use mc_hits::Hands;
 use mc_item::{Fault, Logged, Who};
 use std::marker::Model;
 
-/// A caller's pass: its number and its history, how many turns (calls) it has had, what it has seen and noted of each lock, and
-/// its hands in the queues of hits.
+/// A caller's pass: its number, its history and its account (which events of stripes and classes it made), how many turns (calls)
+/// it has had, what it has seen and noted of each lock, and its hands in the queues of hits.
 #[derive(Drop)]
 pub struct Pass<N: Named> {
     pub(crate) caller: Caller<N>,
@@ -49,7 +49,7 @@ impl<N: Named> Pass<N> {
         requires empty { caller.calls ≡ [] }
         requires board { seen.board ≡ N.board.table }
         requires hands { hands ≡ untouched_hands (tables_of N.queues) caller.number }
-        ensures { result ≡ record { caller = caller.number; turn = 0; calls = []; sight = seen.sight; hands = hands } }
+        ensures { result ≡ record { caller = caller.number; turn = 0; calls = []; sight = seen.sight; hands = hands; made = caller.made } }
     {
         Pass {
             caller,

@@ -1,17 +1,16 @@
-//! One try of a command on its stripe and the classes that it has locked.
+//! One try of a command on its stripe and the classes that it has locked. The board gets the command's events first, then the caller
+//! notes where it was answered.
 ghost use Rattle.std.specs.Prelude.{◌≡◌, ◌≤◌, ◌∷◌, [], None, IfOk, OnErr, IsErrOf, length};
 ghost use Rattle.mc_item.specs.declared.fault.Fault.TheVariants.{HistoryFull};
 ghost use Rattle.mc_board.specs.Histories.{Grows};
 ghost use Rattle.mc_pull.specs.Attempt.{HasRoomFor, MayTryOn};
 ghost use Rattle.mc_stripe.specs.StripeCalls.{KeepsSite};
-ghost use Rattle.mc_store.specs.{Passes.HasAsked, Trying.IsTriedUnder};
+ghost use Rattle.mc_store.specs.{Passes.HasAsked, Trying.IsTriedUnder, Trying.StillTries};
 ghost use Rattle.mc_store.specs.Trying as words;
 
 use crate::caller::Caller;
 use crate::locked::{LockedClass, LockedStripe};
 use crate::named::Named;
-use crate::owned_class::catch_up_class;
-use crate::owned_stripe::catch_up_stripe;
 use crate::pairing::note_if;
 use crate::task::Task;
 use mc_item::Fault;
@@ -39,24 +38,26 @@ pub(crate) fn try_alone<N: Named>(
 ) -> Result<Tried, Fault>
     requires asked { HasAsked caller.old task.turn.who task.command.now task.turn.moment }
     requires may { MayTryOn own.old.stripe [] task.command.now task.turn (record { home = None; other = None }) }
-    ensures tried { IfOk result (IsTriedUnder own.old.stripe own.new.stripe caller.old caller.new task.entry.command.now task.entry.turn (record {
+    ensures tried { IfOk result (IsTriedUnder N.config own.old.stripe own.new.stripe caller.old caller.new task.entry.command.now task.entry.turn (record {
       home =
           None;
       other = None;
     }) [] []) }
     ensures err { OnErr result (own.new.stripe.history ≡ own.old.stripe.history) }
-    ensures unnoted { OnErr result (caller.new ≡ caller.old) }
+    ensures unnoted { OnErr result (StillTries N.config task.entry.command.now task.entry.turn caller.old caller.new) }
     ensures sees { Grows own.old.sight own.new.sight }
     ensures site { KeepsSite own.old.stripe own.new.stripe }
     ensures full { IsErrOf result HistoryFull → own.new.stripe.limit ≤ length own.new.stripe.history }
 {
     let store = task.store;
+    let board = &store.board;
+    let who = task.turn.who;
     let place = own.side.events();
     let tried = attempt_none(&mut own.side.state, task.command, task.turn);
     own.side.state.history();
-    catch_up_stripe(&own.side.state, &mut own.side.owner, &store.board);
+    caller.catch_up_stripe(board, who, &own.side.state, &mut own.side.owner);
     note_if(
-        &store.board,
+        board,
         caller,
         &own.side.state,
         &mut own.side.seen,
@@ -78,14 +79,17 @@ pub(crate) fn try_on_one<N: Named>(
     requires asked { HasAsked caller.old task.turn.who task.command.now task.turn.moment }
     requires may { MayTryOn own.old.stripe (class.old.class ∷ []) task.command.now task.turn given }
     requires room { HasRoomFor given class.old.class }
-    ensures tried { IfOk result (IsTriedUnder own.old.stripe own.new.stripe caller.old caller.new task.entry.command.now task.entry.turn given (class.old ∷
-        []) (class.new ∷ [])) }
-    ensures err { OnErr result ((own.new.stripe.history ≡ own.old.stripe.history) × (caller.new ≡ caller.old)) }
+    ensures tried { IfOk result (IsTriedUnder N.config own.old.stripe own.new.stripe caller.old caller.new task.entry.command.now task.entry.turn given
+        (class.old ∷ []) (class.new ∷ [])) }
+    ensures err { OnErr result ((own.new.stripe.history ≡ own.old.stripe.history)
+        × StillTries N.config task.entry.command.now task.entry.turn caller.old caller.new) }
     ensures sees { Grows own.old.sight own.new.sight }
     ensures site { KeepsSite own.old.stripe own.new.stripe }
     ensures full { IsErrOf result HistoryFull → own.new.stripe.limit ≤ length own.new.stripe.history }
 {
     let store = task.store;
+    let board = &store.board;
+    let who = task.turn.who;
     let place = own.side.events();
     let tried = attempt_one(
         Attempt {
@@ -98,20 +102,20 @@ pub(crate) fn try_on_one<N: Named>(
         &mut class.side.state,
     );
     own.side.state.history();
-    catch_up_stripe(&own.side.state, &mut own.side.owner, &store.board);
+    caller.catch_up_stripe(board, who, &own.side.state, &mut own.side.owner);
+    class.side.state.law();
+    caller.catch_up_class(board, who, &class.side.state, &mut class.side.owner);
     note_if(
-        &store.board,
+        board,
         caller,
         &own.side.state,
         &mut own.side.seen,
         place,
         is_made(&tried),
     );
-    class.side.state.law();
-    catch_up_class(&class.side.state, &mut class.side.owner, &store.board);
-    own.side.hear(&store.board, &mut class.side);
-    class.side.hear(&store.board, &mut own.side);
-    caller.tell_owned(&store.board, &mut class.side);
+    own.side.hear(board, &mut class.side);
+    class.side.hear(board, &mut own.side);
+    caller.tell_owned(board, &mut class.side);
     tried
 }
 
@@ -128,14 +132,17 @@ pub(crate) fn try_on_two<N: Named>(
     requires asked { HasAsked caller.old task.turn.who task.command.now task.turn.moment }
     requires may { MayTryOn own.old.stripe (home.old.class ∷ other.old.class ∷ []) task.command.now task.turn given }
     requires room { HasRoomFor given home.old.class × HasRoomFor given other.old.class }
-    ensures tried { IfOk result (IsTriedUnder own.old.stripe own.new.stripe caller.old caller.new task.entry.command.now task.entry.turn given (home.old ∷
-        other.old ∷ []) (home.new ∷ other.new ∷ [])) }
-    ensures err { OnErr result ((own.new.stripe.history ≡ own.old.stripe.history) × (caller.new ≡ caller.old)) }
+    ensures tried { IfOk result (IsTriedUnder N.config own.old.stripe own.new.stripe caller.old caller.new task.entry.command.now task.entry.turn given
+        (home.old ∷ other.old ∷ []) (home.new ∷ other.new ∷ [])) }
+    ensures err { OnErr result ((own.new.stripe.history ≡ own.old.stripe.history)
+        × StillTries N.config task.entry.command.now task.entry.turn caller.old caller.new) }
     ensures sees { Grows own.old.sight own.new.sight }
     ensures site { KeepsSite own.old.stripe own.new.stripe }
     ensures full { IsErrOf result HistoryFull → own.new.stripe.limit ≤ length own.new.stripe.history }
 {
     let store = task.store;
+    let board = &store.board;
+    let who = task.turn.who;
     let place = own.side.events();
     let tried = attempt_two(
         Attempt {
@@ -149,24 +156,24 @@ pub(crate) fn try_on_two<N: Named>(
         &mut other.side.state,
     );
     own.side.state.history();
-    catch_up_stripe(&own.side.state, &mut own.side.owner, &store.board);
+    caller.catch_up_stripe(board, who, &own.side.state, &mut own.side.owner);
+    home.side.state.law();
+    caller.catch_up_class(board, who, &home.side.state, &mut home.side.owner);
+    other.side.state.law();
+    caller.catch_up_class(board, who, &other.side.state, &mut other.side.owner);
     note_if(
-        &store.board,
+        board,
         caller,
         &own.side.state,
         &mut own.side.seen,
         place,
         is_made(&tried),
     );
-    home.side.state.law();
-    catch_up_class(&home.side.state, &mut home.side.owner, &store.board);
-    other.side.state.law();
-    catch_up_class(&other.side.state, &mut other.side.owner, &store.board);
-    own.side.hear(&store.board, &mut home.side);
-    own.side.hear(&store.board, &mut other.side);
-    home.side.hear(&store.board, &mut own.side);
-    other.side.hear(&store.board, &mut own.side);
-    caller.tell_owned(&store.board, &mut home.side);
-    caller.tell_owned(&store.board, &mut other.side);
+    own.side.hear(board, &mut home.side);
+    own.side.hear(board, &mut other.side);
+    home.side.hear(board, &mut own.side);
+    other.side.hear(board, &mut own.side);
+    caller.tell_owned(board, &mut home.side);
+    caller.tell_owned(board, &mut other.side);
     tried
 }

@@ -8,6 +8,9 @@ ghost use Rattle.mc_pull.specs.Growth as classes;
 ghost use Rattle.mc_pull.specs.{Juggle.IsJuggle, Lone.StripeGrows, Rounds.IsRoom, Rounds.rounds, Settled.lost_event, Walker.walker_of};
 ghost use Rattle.mc_pull.specs.declared.looking.Answer.{Answer};
 ghost use Rattle.mc_store.specs.{
+  Accounts.IsOfCommand,
+  Accounts.IsOfWalk,
+  Accounts.StillCalls,
   Callers.juggling_of,
   Earned.IsSearchInVain,
   Full.LacksPlaces,
@@ -18,30 +21,28 @@ ghost use Rattle.mc_store.specs.{
 ghost use Rattle.mc_store.specs.{Locked.HasBegunAs, Locked.HasBegunCommand, Locked.HasBegunSearch, Walking.LeavesSearch, Walking.MayWalkWith};
 ghost use Rattle.mc_board.specs.Histories.{Grows, list_at};
 
+use crate::caller::Caller;
 use crate::gates::{Holding, Trying};
 use crate::locked::{LockedClass, LockedStripe};
 use crate::named::Named;
-use crate::owned_class::catch_up_class;
-use crate::owned_stripe::catch_up_stripe;
 use crate::pairing::meet;
-use crate::store::Store;
-use crate::task::Task;
+use crate::task::{Call, Task};
 use mc_board::{Owner, Seen};
 use mc_item::{Fault, Link, Moves};
 use mc_pull::{Context, Judge, settle};
 use mc_segment::ClassState;
-use mc_stripe::Turn;
-use std::alloc::Global;
 
-// Makes room in a class whose tokens are lent apart from it, for a caller that has locked one stripe. Others are only tried.
+// Makes room in a class whose tokens are lent apart from it, for a caller that has locked one stripe. Others are only tried. The
+// caller's account gains only events of the class and of stripes.
 fn make_room_with<N: Named>(
     task: Task<'_, N>,
     own: &mut LockedStripe<N>,
     class: &mut ClassState,
     owner: &mut Owner,
     seen: &mut Seen,
+    caller: &mut Caller<N>,
 ) -> Result<bool, Fault>
-    requires tokens { MayWalkWith N.board.table N.config owner.old seen.old class.old task.turn.who task.turn.moment }
+    requires tokens { MayWalkWith N.board.table N.config caller.old owner.old seen.old class.old task.turn.who task.turn.moment }
     ensures room { IfOk result (λ found. (xs : List Answer) × IsRoom (rounds class.old task.entry.turn.who task.entry.turn.moment N.config) class.old.history
         xs class.new.history found) }
     ensures class { classes.GainsEvents class.old class.new }
@@ -49,6 +50,7 @@ fn make_room_with<N: Named>(
         own.old.stripe owner.new seen.new class.new own.new.stripe }
     ensures tried { IfOk result (λ found. found ≡ false → IsSearchInVain N.config class.old own.old.stripe task.entry.turn.who task.entry.turn.moment
         class.new.history) }
+    ensures still { StillCalls (IsOfWalk N.config class.old.number) task.entry.turn.who.turn caller.old caller.new }
     ensures fault { IfErr result (MayFailSeen N.config seen.new.sight class.new) }
 {
     let store = task.store;
@@ -57,6 +59,7 @@ fn make_room_with<N: Named>(
         own: &mut *own,
         others: Trying {
             store,
+            caller: &mut *caller,
             owner: &mut *owner,
             seen: &mut *seen,
             answers: &mut answers,
@@ -74,17 +77,19 @@ fn make_room_with<N: Named>(
 
 // Makes room in a class under its lock, for a caller that has locked one stripe. Other stripes' locks are only tried. Returns
 // whether a chunk is free then; if not, the search has tried for one. After a fault what happened so far stays. The stripe learns
-// all that the class has seen.
+// all that the class has seen. The caller's account gains only events of the class and of stripes.
 pub(crate) fn make_room_under<N: Named>(
     task: Task<'_, N>,
     own: &mut LockedStripe<N>,
     class: &mut LockedClass<N>,
+    caller: &mut Caller<N>,
 ) -> Result<bool, Fault>
-    requires begun { HasBegunSearch N.config own.old.sight task.turn.who task.turn.moment }
+    requires begun { HasBegunSearch N.config own.old.sight task.turn.who task.turn.moment × (task.turn.who.caller ≡ caller.old.number) }
     ensures room { IfOk result (λ found. (xs : List Answer) × IsRoom (rounds class.old.class task.entry.turn.who task.entry.turn.moment N.config)
         class.old.class.history xs class.new.class.history found) }
     ensures class { classes.GainsEvents class.old.class class.new.class }
-    ensures stripe { StripeGrows (walker_of class.old.class task.entry.turn.who task.entry.turn.moment) own.old.stripe own.new.stripe }
+    ensures leaves { StripeGrows (walker_of class.old.class task.entry.turn.who task.entry.turn.moment) own.old.stripe own.new.stripe
+        × StillCalls (IsOfWalk N.config class.old.class.number) task.entry.turn.who.turn caller.old caller.new }
     ensures tried { IfOk result (λ found. found ≡ false → IsSearchInVain N.config class.old.class own.old.stripe task.entry.turn.who task.entry.turn.moment
         class.new.class.history) }
     ensures begun { HasBegunSearch N.config own.new.sight task.entry.turn.who task.entry.turn.moment }
@@ -95,63 +100,76 @@ pub(crate) fn make_room_under<N: Named>(
     let board = &store.board;
     class.learn_from(board, own);
     let side = &mut class.side;
-    let found = make_room_with(task, own, &mut side.state, &mut side.owner, &mut side.seen);
-    catch_up_class(&side.state, &mut side.owner, board);
+    let found = make_room_with(
+        task,
+        own,
+        &mut side.state,
+        &mut side.owner,
+        &mut side.seen,
+        caller,
+    );
+    caller.catch_up_class(board, task.turn.who, &side.state, &mut side.owner);
     own.side.seen.learn(board, &mut side.seen);
     own.side.hear(board, side);
     found
 }
 
-// Juggles a class under its lock. The locks of stripes are only tried.
+// Juggles a class under its lock. The locks of stripes are only tried. The caller's account gains only events of the class and of
+// stripes.
 pub(crate) fn juggle_under<N: Named>(
-    alloc: Global,
-    store: &Store<N>,
+    call: Call<'_, N>,
     class: &mut LockedClass<N>,
-    turn: Turn,
+    caller: &mut Caller<N>,
 ) -> Result<Moves, Fault>
-    requires begun { HasBegunAs N.config class.old.sight turn.who turn.moment (juggling_of class.old.class.number turn.moment) }
-    ensures juggle { IfOk result (λ moves. (xs : List Answer) × IsJuggle (rounds class.old.class turn.who turn.moment N.config) class.old.class.history xs
-        class.new.class.history moves) }
+    requires begun { HasBegunAs N.config class.old.sight call.turn.who call.turn.moment (juggling_of class.old.class.number call.turn.moment) }
+    requires caller { call.turn.who.caller ≡ caller.old.number }
+    ensures juggle { IfOk result (λ moves. (xs : List Answer) × IsJuggle (rounds class.old.class call.entry.turn.who call.entry.turn.moment N.config)
+        class.old.class.history xs class.new.class.history moves) }
     ensures few { IfOk result (λ moves. moves.reclaimed + moves.moved ≤ 10000) }
     ensures class { classes.GainsEvents class.old.class class.new.class }
+    ensures still { StillCalls (IsOfWalk N.config class.old.class.number) call.entry.turn.who.turn caller.old caller.new }
     ensures fault { IfErr result (MayFailSeen N.config class.new.sight class.new.class) }
 {
-    let mut answers = Vec::new(alloc);
+    let store = call.store;
+    let who = call.turn.who;
+    let mut answers = Vec::new(call.alloc);
     let side = &mut class.side;
     let mut gate = Trying {
         store,
+        caller: &mut *caller,
         owner: &mut side.owner,
         seen: &mut side.seen,
         answers: &mut answers,
-        who: turn.who,
-        moment: turn.moment,
+        who,
+        moment: call.turn.moment,
     };
     let context = Context {
-        alloc,
-        turn,
+        alloc: call.alloc,
+        turn: call.turn,
         config: &store.config,
     };
-    let moves = gate.juggle(context, &mut side.state);
-    catch_up_class(&side.state, &mut side.owner, &store.board);
-    moves
+    gate.juggle(context, &mut side.state)
 }
 
 // Removes the dead item of a key, and its entry. `link` is the item's, and the class is the link's. After a fault both histories
-// are as they were. The class learns of the call from the stripe, which has seen it.
+// are as they were. The class learns of the call from the stripe, which has seen it. The caller's account gains only events of
+// this stripe and a class.
 pub(crate) fn bury_under<N: Named>(
     task: Task<'_, N>,
     own: &mut LockedStripe<N>,
     class: &mut LockedClass<N>,
+    caller: &mut Caller<N>,
     link: Link,
 ) -> Result<(), Fault>
-    requires begun { HasBegunCommand N.config own.old.sight task.turn.who task.turn.moment }
+    requires begun { HasBegunCommand N.config own.old.sight task.turn.who task.turn.moment × (task.turn.who.caller ≡ caller.old.number) }
     requires dead { dead_link ((cache_now own.old.stripe).items (key_of task.command.now)) task.turn.moment ≡ Some link }
     requires class { class.old.class.number ≡ link.class }
     ensures lost { OnOk result (own.new.stripe.history ≡ own.old.stripe.history ++ lost_event task.entry.turn.who (key_of task.entry.command.now) (Expired
         task.entry.turn.moment) ∷ []) }
     ensures err { OnErr result (own.new.stripe.history ≡ own.old.stripe.history) }
     ensures sees { Grows own.old.sight own.new.sight }
-    ensures site { KeepsSite own.old.stripe own.new.stripe }
+    ensures same { KeepsSite own.old.stripe own.new.stripe × StillCalls (IsOfCommand N.config own.old.stripe.site.stripe task.entry.command.now)
+        task.entry.turn.who.turn caller.old caller.new }
     ensures full { IsErrOf result HistoryFull → (own.new.stripe.limit < length own.new.stripe.history + 2) ⊎ LacksPlaces N.config own.new.sight link.class 2 }
 {
     let store = task.store;
@@ -173,8 +191,9 @@ pub(crate) fn bury_under<N: Named>(
     );
     class.side.state.law();
     own.side.state.history();
-    catch_up_stripe(&own.side.state, &mut own.side.owner, board);
-    catch_up_class(&class.side.state, &mut class.side.owner, board);
+    let who = task.turn.who;
+    caller.catch_up_stripe(board, who, &own.side.state, &mut own.side.owner);
+    caller.catch_up_class(board, who, &class.side.state, &mut class.side.owner);
     own.side.hear(board, &mut class.side);
     class.side.hear(board, &mut own.side);
     class.side.learn(board, &mut own.side);

@@ -14,7 +14,7 @@ impl Gate for Refusing {
 
     ghost answers = { λ g. g.answers.items };
 
-    ghost serves = { λ g config c. Unit {0} };
+    ghost serves = { λ g config who c. Unit {0} };
 
     ghost references = { λ g. [] };
 

@@ -1,15 +1,15 @@
 //! Histories counted by one thread, and raced for by three. Figures read while another thread publishes them.
-ghost use Rattle.std.specs.Prelude.{◌≡◌, ◌+◌, ◌*◌, ◌<◌, ◌≤◌, ◌^◌, ◌∷◌, [], length, map, false};
+ghost use Rattle.std.specs.Prelude.{◌≡◌, ◌+◌, ◌*◌, ◌<◌, ◌≤◌, ◌^◌, ◌∷◌, [], None, drop, length, map, false};
 ghost use mathlib.Core.List.{IsPrefix};
-ghost use Rattle.mc_item.specs.declared.event.Event.TheVariants.{Call};
+ghost use Rattle.mc_item.specs.declared.event.Event.TheVariants.{Call, Class, Stripe};
 ghost use Rattle.mc_evidence.specs.Seen.{class_events};
-ghost use Rattle.mc_board.specs.Views.{locks_of};
-ghost use Rattle.mc_list_tests.specs.Rounds.{HasRounds};
+ghost use Rattle.mc_board.specs.{Accounts.maker_in, Accounts.AreBy, Views.locks_of};
+ghost use Rattle.mc_list_tests.specs.Rounds.{who_calls, HasRounds};
 
 use super::WHO;
-use mc_board::{Board, Busy, Figures, Owner, Seen};
+use mc_board::{Board, Busy, Counts, Figures, Owner, Seen};
 use mc_history::{History, Shows};
-use mc_item::{CallEvent, ClassEvent, ClassNo, Cooled, Key, Logged, Seg, StripeEvent, Worked};
+use mc_item::{CallEvent, ClassEvent, ClassNo, Cooled, Key, Logged, Seg, StripeEvent, Who, Worked};
 use mc_segment::ShownClass;
 use std::alloc::Global;
 use std::process::Abort;
@@ -17,9 +17,32 @@ use std::snapshot::Snapshot;
 use std::thread;
 use std::thread::Threads;
 
+// So many histories of callers, and no other.
+fn callers(callers: usize) -> Counts
+    ensures { result ≡ record { stripes = 0; classes = 0; callers = callers } }
+{
+    Counts {
+        stripes: 0,
+        classes: 0,
+        callers,
+    }
+}
+
+// So many histories of stripes and classes, and the caller's.
+fn with_caller(stripes: usize, classes: usize) -> Counts
+    ensures { result ≡ record { stripes = stripes; classes = classes; callers = 1 } }
+{
+    Counts {
+        stripes,
+        classes,
+        callers: 1,
+    }
+}
+
 // An event of a caller: it asked for a class to be juggled.
 fn juggled() -> CallEvent
-    ensures { class_events (Call result ∷ []) ≡ [] }
+    ensures plain { class_events (Call result ∷ []) ≡ [] }
+    ensures own { maker_in (Call result) ≡ None }
 {
     CallEvent::Juggled(Worked {
         class: ClassNo(1),
@@ -32,6 +55,7 @@ fn append_many<E: Logged>(board: &Board, owner: &mut Owner, event: &E, times: u6
     requires board { owner.old.board ≡ board.now.table }
     requires room { length owner.old.history + times ≤ 2 ^ 32 }
     requires plain { class_events (E.entry event.now ∷ []) ≡ [] }
+    requires own { maker_in (E.entry event.now) ≡ None }
     ensures same { (owner.new.board ≡ owner.old.board) × (owner.new.lock ≡ owner.old.lock) }
 {
     for _i in 0..times {
@@ -39,15 +63,48 @@ fn append_many<E: Logged>(board: &Board, owner: &mut Owner, event: &E, times: u6
     }
 }
 
-// The owner appends an event of a stripe three times.
-fn append_cooled(rt: &impl Abort, alloc: Global, board: &Board, owner: &mut Owner)
-    requires board { owner.old.board ≡ board.now.table }
-    requires room { length owner.old.history + 3 ≤ 2 ^ 32 }
-    ensures same { (owner.new.board ≡ owner.old.board) × (owner.new.lock ≡ owner.old.lock) }
+// What a history is shown of a stripe's event that it lets go.
+#[derive(Drop)]
+struct ShownEvent(Snapshot<StripeEvent>);
+
+impl Shows<StripeEvent> for ShownEvent {
+    ghost event = { λ s. s.0.value };
+}
+
+type StripeHistory = History<StripeEvent, ShownEvent>;
+
+// A stripe's history in which the caller has cooled an item this many times.
+fn cooled(rt: &impl Abort, alloc: Global, times: usize) -> StripeHistory
+    ensures many { length result.items ≡ times }
+    ensures plain { class_events (map Stripe result.items) ≡ [] }
+    ensures by { AreBy who_calls (map Stripe result.items) }
 {
-    let key = Key::of(alloc, b"a").expect(rt, "a key");
-    let event = StripeEvent::Cooled(Cooled { who: WHO, key });
-    append_many(board, owner, &event, 3);
+    let mut events = History::new(alloc);
+    events.reserve(times).expect(rt, "room");
+    for _i in 0..times {
+        let key = Key::of(alloc, b"a").expect(rt, "a key");
+        let event = StripeEvent::Cooled(Cooled { who: WHO, key });
+        events.push_reserved(&ShownEvent(Snapshot::of(&event)), Some(event));
+    }
+    events
+}
+
+// A stripe's owner without events catches up with three of the caller.
+fn catch_up_cooled(
+    rt: &impl Abort,
+    alloc: Global,
+    board: &Board,
+    owner: &mut Owner,
+    caller: &mut Owner,
+)
+    requires board { (owner.old.board ≡ board.now.table) × (caller.old.board ≡ board.now.table) }
+    requires empty { owner.old.history ≡ [] }
+    requires caller { caller.old.first ≡ caller.old.lock }
+    ensures same { (owner.new.board ≡ owner.old.board) × (owner.new.lock ≡ owner.old.lock) }
+    ensures caller { caller.new.board ≡ caller.old.board }
+{
+    let events = cooled(rt, alloc, 3);
+    owner.catch_up(board, &events, WHO, caller);
 }
 
 // The owner appends the event this many times, and tells a token its history.
@@ -61,6 +118,7 @@ fn append_and_tell<E: Logged>(
     requires board { (owner.old.board ≡ board.now.table) × (token.old.board ≡ board.now.table) }
     requires room { length owner.old.history + times ≤ 2 ^ 32 }
     requires plain { class_events (E.entry event.now ∷ []) ≡ [] }
+    requires own { maker_in (E.entry event.now) ≡ None }
     ensures owner { (owner.new.board ≡ owner.old.board) × (owner.new.lock ≡ owner.old.lock) }
     ensures token { token.new.board ≡ token.old.board }
 {
@@ -81,7 +139,7 @@ fn tell_and_compare(board: &Board, owner: &mut Owner, told: &mut Seen, other: &m
 // The counts of the locks 0, 1 and 2.
 fn three_counts(board: &Board, token: &mut Seen) -> [u64; 3]
     requires board { token.old.board ≡ board.now.table }
-    requires locks { locks_of board.now.counts ≡ 3 }
+    requires locks { 2 < locks_of board.now.counts }
     ensures { token.new.board ≡ token.old.board }
 {
     [
@@ -94,7 +152,7 @@ fn three_counts(board: &Board, token: &mut Seen) -> [u64; 3]
 // Asserts the counts of the locks 0, 1 and 2.
 fn asserts_counts(rt: &impl Abort, board: &Board, token: &mut Seen, wanted: [u64; 3])
     requires board { token.old.board ≡ board.now.table }
-    requires locks { locks_of board.now.counts ≡ 3 }
+    requires locks { 2 < locks_of board.now.counts }
     ensures { token.new.board ≡ token.old.board }
 {
     assert_eq!(rt; three_counts(board, token), wanted);
@@ -109,23 +167,18 @@ fn asserts_many<R: Abort>(rt: &R, owners: usize, wanted: usize)
 
 #[test]
 fn three_appended_events_are_counted(rt: HostRuntime) {
-    let (board, mut owners, mut root) = Board::open(rt.alloc(), 3).expect(&rt, "a board");
+    let (board, mut owners, mut root) = Board::open(rt.alloc(), with_caller(2, 0)).expect(
+        &rt, "a board",
+    );
     let mut token = root.split(&board);
     asserts_many(&rt, owners.len(), 3);
+    let mut caller = owners.pop().expect(&rt, "an owner");
     asserts_counts(&rt, &board, &mut root, [0, 0, 0]);
-    append_cooled(&rt, rt.alloc(), &board, &mut owners[1]);
+    catch_up_cooled(&rt, rt.alloc(), &board, &mut owners[1], &mut caller);
     asserts_counts(&rt, &board, &mut token, [0, 3, 0]);
     tell_and_compare(&board, &mut owners[1], &mut root, &mut token);
     token.meet(&board, &mut root);
     asserts_counts(&rt, &board, &mut root, [0, 3, 0]);
-}
-
-// What a history is shown of a caller's event that it lets go.
-#[derive(Drop)]
-struct ShownCall(Snapshot<CallEvent>);
-
-impl Shows<CallEvent> for ShownCall {
-    ghost event = { λ s. s.0.value };
 }
 
 // Lets an owner without events catch up with a list, and once more.
@@ -133,29 +186,31 @@ fn catch_up_twice<E: Logged + Drop, S: Shows<E> + Drop>(
     board: &Board,
     owner: &mut Owner,
     events: &History<E, S>,
+    who: Who,
+    caller: &mut Owner,
 )
-    requires board { owner.old.board ≡ board.now.table }
+    requires board { (owner.old.board ≡ board.now.table) × (caller.old.board ≡ board.now.table) }
     requires empty { owner.old.history ≡ [] }
     requires few { length events.now.items ≤ 2 ^ 32 }
     requires plain { class_events (map E.entry events.now.items) ≡ [] }
+    requires by { AreBy who (map E.entry events.now.items) }
+    requires caller { caller.old.first + who.caller ≡ caller.old.lock }
     ensures { (owner.new.board ≡ owner.old.board) × (owner.new.lock ≡ owner.old.lock) }
 {
-    owner.catch_up(board, events);
-    owner.catch_up(board, events);
+    owner.catch_up(board, events, who, caller);
+    owner.catch_up(board, events, who, caller);
 }
 
 // An owner without events catches up with two, each of which is added once.
 #[test]
 fn an_owner_catches_up_with_a_list(rt: HostRuntime) {
-    let mut events = History::new(rt.alloc());
-    events.reserve(2).expect(&rt, "room");
-    let first = juggled();
-    events.push_reserved(&ShownCall(Snapshot::of(&first)), Some(first));
-    let second = juggled();
-    events.push_reserved(&ShownCall(Snapshot::of(&second)), Some(second));
-    let (board, mut owners, mut token) = Board::open(rt.alloc(), 3).expect(&rt, "a board");
-    asserts_many(&rt, owners.len(), 3);
-    catch_up_twice(&board, &mut owners[2], &events);
+    let events = cooled(&rt, rt.alloc(), 2);
+    let (board, mut owners, mut token) = Board::open(rt.alloc(), with_caller(3, 0)).expect(
+        &rt, "a board",
+    );
+    asserts_many(&rt, owners.len(), 4);
+    let mut caller = owners.pop().expect(&rt, "an owner");
+    catch_up_twice(&board, &mut owners[2], &events, WHO, &mut caller);
     asserts_counts(&rt, &board, &mut token, [0, 0, 2]);
 }
 
@@ -163,7 +218,7 @@ fn an_owner_catches_up_with_a_list(rt: HostRuntime) {
 #[test]
 fn a_token_learns_what_another_has_seen(rt: HostRuntime) {
     let event = juggled();
-    let (board, mut owners, mut first) = Board::open(rt.alloc(), 3).expect(&rt, "a board");
+    let (board, mut owners, mut first) = Board::open(rt.alloc(), callers(3)).expect(&rt, "a board");
     let mut second = first.split(&board);
     asserts_many(&rt, owners.len(), 3);
     append_and_tell(&board, &mut owners[0], &event, 2, &mut first);
@@ -176,7 +231,7 @@ fn a_token_learns_what_another_has_seen(rt: HostRuntime) {
 
 #[test]
 fn a_board_without_locks_opens(rt: HostRuntime) {
-    let (board, owners, mut root) = Board::open(rt.alloc(), 0).expect(&rt, "a board");
+    let (board, owners, mut root) = Board::open(rt.alloc(), callers(0)).expect(&rt, "a board");
     asserts_many(&rt, owners.len(), 0);
     let mut token = root.split(&board);
     token.meet(&board, &mut root);
@@ -253,7 +308,7 @@ fn asserts_race<R: Abort>(rt: &R, rising: bool, counts: [u64; 2]) {
 
 #[test]
 fn no_count_falls_while_two_threads_append(rt: HostRuntime) {
-    let (board, mut owners, mut token) = Board::open(rt.alloc(), 2).expect(&rt, "a board");
+    let (board, mut owners, mut token) = Board::open(rt.alloc(), callers(2)).expect(&rt, "a board");
     let second = owners.pop().expect(&rt, "an owner");
     let first = owners.pop().expect(&rt, "an owner");
     let (rising, counts) = race(&rt, &board, first, second, &mut token);
@@ -269,6 +324,7 @@ fn play_round(history: &mut ClassHistory, key: &Key, round: u64)
     requires rounds { HasRounds history.old.items round }
     ensures rounds { HasRounds history.new.items (round + 1) }
     ensures begins { IsPrefix history.old.items history.new.items }
+    ensures by { AreBy who_calls (drop (length (map Class history.old.items)) (map Class history.new.items)) }
     ensures room { history.old.room ≡ history.new.room + 2 }
     ensures kept { history.new.kept ≡ false }
 {
@@ -292,25 +348,35 @@ fn play_round(history: &mut ClassHistory, key: &Key, round: u64)
     history.push_reserved(&cold, None);
 }
 
+// The owners of a class's history and of its caller's.
+#[derive(Drop)]
+struct Pair {
+    class: Owner,
+    caller: Owner,
+}
+
 // Plays this many rounds, and publishes the figures after each: 69 bytes more in HOT and in COLD, and one entry more.
 fn publish_rounds(
     board: &Board,
-    owner: &mut Owner,
+    pair: &mut Pair,
     history: &mut ClassHistory,
     key: &Key,
     rounds: u64,
 )
-    requires board { owner.old.board ≡ board.now.table }
-    requires empty { (owner.old.history ≡ []) × (history.old.items ≡ []) }
+    requires board { (pair.old.class.board ≡ board.now.table) × (pair.old.caller.board ≡ board.now.table) }
+    requires caller { pair.old.caller.first ≡ pair.old.caller.lock }
+    requires empty { (pair.old.class.history ≡ []) × (history.old.items ≡ []) }
     requires room { (2 * rounds ≤ history.old.room) × (2 * rounds ≤ 2 ^ 32) }
     requires kept { history.old.kept ≡ false }
-    ensures same { (owner.new.board ≡ owner.old.board) × (owner.new.lock ≡ owner.old.lock) }
+    ensures same { (pair.new.class.board ≡ pair.old.class.board) × (pair.new.class.lock ≡ pair.old.class.lock) }
+    ensures caller { (pair.new.caller.board ≡ pair.old.caller.board) × (pair.new.caller.first ≡ pair.new.caller.lock) }
 {
     for round in 0..rounds {
         play_round(history, key, round);
         let bytes = 69 * (round + 1);
         let figures = [bytes, 0, bytes, 0, round + 1, 0, round + 1, 0];
-        owner.publish(board, history, &figures);
+        pair.class
+            .publish(board, history, &figures, WHO, &mut pair.caller);
     }
 }
 
@@ -348,20 +414,22 @@ fn read_many(board: &Board, token: &mut Seen, tries: u64) -> bool
 fn publish_and_read<R: Threads + Sync>(
     rt: &R,
     board: &Board,
-    owner: &mut Owner,
+    pair: &mut Pair,
     history: &mut ClassHistory,
     key: &Key,
     token: &mut Seen,
 ) -> bool
-    requires board { (owner.old.board ≡ board.now.table) × (token.old.board ≡ board.now.table) }
+    requires board { (pair.old.class.board ≡ board.now.table) × (pair.old.caller.board ≡ board.now.table) }
+    requires token { token.old.board ≡ board.now.table }
     requires locks { 0 < locks_of board.now.counts }
-    requires empty { (owner.old.history ≡ []) × (history.old.items ≡ []) }
+    requires caller { pair.old.caller.first ≡ pair.old.caller.lock }
+    requires empty { (pair.old.class.history ≡ []) × (history.old.items ≡ []) }
     requires room { 1000 ≤ history.old.room }
     requires kept { history.old.kept ≡ false }
 {
     let (_, right) = thread::join(
         rt,
-        || publish_rounds(board, owner, history, key, 500),
+        || publish_rounds(board, pair, history, key, 500),
         || read_many(board, token, 500),
     );
     right
@@ -394,10 +462,15 @@ fn figures_are_of_one_moment_while_they_are_published(rt: HostRuntime) {
     let key = Key::of(rt.alloc(), b"a").expect(&rt, "a key");
     let mut history = History::keeping(rt.alloc(), false);
     history.reserve(1000).expect(&rt, "room");
-    let (board, mut owners, mut first) = Board::open(rt.alloc(), 1).expect(&rt, "a board");
+    let (board, mut owners, mut first) = Board::open(rt.alloc(), with_caller(0, 1)).expect(
+        &rt, "a board",
+    );
     let mut second = first.split(&board);
-    asserts_many(&rt, owners.len(), 1);
-    let right = publish_and_read(&rt, &board, &mut owners[0], &mut history, &key, &mut first);
+    asserts_many(&rt, owners.len(), 2);
+    let caller = owners.pop().expect(&rt, "an owner");
+    let class = owners.pop().expect(&rt, "an owner");
+    let mut pair = Pair { class, caller };
+    let right = publish_and_read(&rt, &board, &mut pair, &mut history, &key, &mut first);
     asserts_right(&rt, right);
     let found = second.figures(&board, 0);
     asserts_figures(&rt, found, 1000, [34_500, 0, 34_500, 0], [500, 0, 500, 0]);
@@ -409,22 +482,27 @@ fn figures_that_were_read_are_compared(rt: HostRuntime) {
     let key = Key::of(rt.alloc(), b"a").expect(&rt, "a key");
     let mut history = History::keeping(rt.alloc(), false);
     history.reserve(2).expect(&rt, "room");
-    let (board, mut owners, mut token) = Board::open(rt.alloc(), 2).expect(&rt, "a board");
-    asserts_many(&rt, owners.len(), 2);
-    publish_rounds(&board, &mut owners[0], &mut history, &key, 1);
-    append_cooled(&rt, rt.alloc(), &board, &mut owners[1]);
+    let (board, mut owners, mut token) = Board::open(rt.alloc(), with_caller(1, 1)).expect(
+        &rt, "a board",
+    );
+    asserts_many(&rt, owners.len(), 3);
+    let caller = owners.pop().expect(&rt, "an owner");
+    let class = owners.pop().expect(&rt, "an owner");
+    let mut pair = Pair { class, caller };
+    publish_rounds(&board, &mut pair, &mut history, &key, 1);
+    catch_up_cooled(&rt, rt.alloc(), &board, &mut owners[0], &mut pair.caller);
     asserts_two(&rt, &board, &mut token);
-    owners[0].compare(&board, &mut token);
+    pair.class.compare(&board, &mut token);
 }
 
-// The figures of lock 0 are those of a round, and those of lock 1 are of three events that are no class's.
+// The figures of lock 1 are those of a round, and those of lock 0 are of three events that are no class's.
 fn asserts_two<R: Abort>(rt: &R, board: &Board, token: &mut Seen)
     requires board { token.old.board ≡ board.now.table }
-    requires locks { locks_of board.now.counts ≡ 2 }
+    requires locks { 1 < locks_of board.now.counts }
     ensures { token.new.board ≡ token.old.board }
 {
-    let found = token.figures(board, 0);
-    asserts_figures(rt, found, 2, [69, 0, 69, 0], [1, 0, 1, 0]);
     let found = token.figures(board, 1);
+    asserts_figures(rt, found, 2, [69, 0, 69, 0], [1, 0, 1, 0]);
+    let found = token.figures(board, 0);
     asserts_figures(rt, found, 3, [0, 0, 0, 0], [0, 0, 0, 0]);
 }

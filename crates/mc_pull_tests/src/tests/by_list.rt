@@ -23,7 +23,7 @@ impl<'a> Gate for ByList<'a> {
 
     ghost answers = { λ g. g.answers.now.items };
 
-    ghost serves = { λ g config c. Serves 0 g.stripe.now config };
+    ghost serves = { λ g config who c. Serves 0 g.stripe.now config };
 
     ghost references = { λ g. g.stripe.ghost_name ∷ [] };
 

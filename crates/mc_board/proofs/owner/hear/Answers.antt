@@ -32,4 +32,7 @@ pub returns-clause-told : goal.returns-clause-told
 returns-clause-told c = c.load.ensures.2.0 ∙ heard c
 
 pub returns-clause-ahead : goal.returns-clause-ahead
-returns-clause-ahead c = subst (λ (m : Me Unit View). IsOwnerAhead m.0) (heard c) c.load.ensures.2.1
+returns-clause-ahead c = (subst (λ (m : Me Unit View). IsOwnerAhead m.0) (heard c) c.load.ensures.2.1).0
+
+pub returns-clause-account : goal.returns-clause-account
+returns-clause-account c = (subst (λ (m : Me Unit View). IsOwnerAhead m.0) (heard c) c.load.ensures.2.1).1

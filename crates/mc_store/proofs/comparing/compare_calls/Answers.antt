@@ -1,7 +1,7 @@
 use Rattle.std.proofs.Common.{◌≡◌, length, slice_get, set, ap, ◌∙◌, subst, below_more, arith}
 use Rattle.std.proofs.lemmas.{List.set-get_or, Option.get_or_from_slice_get, Option.slice_get_within}
 use Rattle.mc_board.specs.Histories.{HasSeen}
-use Rattle.mc_store.specs.{Callers.calls_told, Locked.caller_place, Passes.CallerView, Sides.StripeSide}
+use Rattle.mc_store.specs.{Callers.calls_told, Finals.AreEntered, Locked.caller_place, Passes.CallerView, Sides.StripeSide, Sides.stripe_told}
 use Rattle.mc_store.proofs.comparing.compare_calls.Goals as goal
 
 pub loop-i-preserved : goal.loop-i-preserved
@@ -15,10 +15,16 @@ loop-i-preserved g c =
       below_more _ _ i.2
           (λ s e.
           let is : x ≡ s = c.index_mut.ensures.value ∙ get_or_from_slice_get items c.loop-i.i s x (ap (λ ys. slice_get ys c.loop-i.i) i.0 ∙ e) in
-          subst (λ (v : CallerView). HasSeen (calls_told v.calls) s.sight (caller_place config v.number)) i.1
-          (subst (λ (y : StripeSide). HasSeen (calls_told c.loop-i.caller.calls) y.sight (caller_place config c.loop-i.caller.number)) is c.compare_call.ensures.behind)),
+          let before = c.loop-i.caller in
+          subst (λ (v : CallerView). HasSeen (calls_told v.calls) s.sight (caller_place config v.number) × AreEntered v s.lock (stripe_told s.stripe.history)) i.1
+          (subst (λ (y : StripeSide). HasSeen (calls_told before.calls) y.sight (caller_place config before.number) × AreEntered before y.lock (stripe_told y.stripe.history)) is
+          (c.compare_call.ensures.behind, c.compare_call.ensures.entered))),
     )
 
 pub returns-clause-behind : goal.returns-clause-behind
 returns-clause-behind g c =
-    λ k s e. let within = slice_get_within c.args.stripes.now.items k s e in c.loop-i.invariant.2 k (omega (arith, within, ap length c.loop-i.invariant.0)) s e
+    λ k s e. let within = slice_get_within c.args.stripes.now.items k s e in (c.loop-i.invariant.2 k (omega (arith, within, ap length c.loop-i.invariant.0)) s e).0
+
+pub returns-clause-entered : goal.returns-clause-entered
+returns-clause-entered g c =
+    λ k s e. let within = slice_get_within c.args.stripes.now.items k s e in (c.loop-i.invariant.2 k (omega (arith, within, ap length c.loop-i.invariant.0)) s e).1

@@ -1,33 +1,49 @@
-use Rattle.std.proofs.Common.{◌≡◌, ap, ◌∙◌, subst, sym}
+use Rattle.std.proofs.Common.{rules, ◌≡◌, ap, ◌∙◌, subst, sym}
 use Rattle.std.specs.Prelude.{OnOk}
 use Rattle.mc_item.specs.declared.config.Config.{Config}
-use Rattle.mc_board.specs.Views.{OwnerView}
 use Rattle.mc_segment.specs.ClassState.{ClassView}
-use Rattle.mc_store.specs.{Crawls.CountsOne, Callers.crawling_of, Locked.HasBegunAs, Locked.IsLockedClass, Serving.class_side, Sides.ClassSide}
+use Rattle.mc_store.specs.{Accounts.IsOfWalk, Accounts.StillCalls, Crawls.CountsOne, Callers.crawling_of, Locked.HasBegunAs, Locked.IsLockedClass, Serving.class_side, Sides.ClassSide}
 use Rattle.mc_store.proofs.{CallerLemmas.begun_as_sees, CrawledLemmas.on_ok_more, OwnEventLemmas.gains_crawled, OwnEventLemmas.locked_gains}
+use Rattle.mc_store.proofs.OwnCallLemmas.{may_try_whole}
 use Rattle.mc_store.proofs.crawling.crawl_under.Goals as goal
+
+pub crawl-requires-clause-gate : goal.crawl-requires-clause-gate
+crawl-requires-clause-gate g c =
+    let config = g.N.Named.config in
+    let turn = c.args.call.turn in
+    let side = c.side.inside in
+    let kept = subst (IsLockedClass g.N.Named.board.table config) (sym c.side.view_is) c.class.invariant in
+    let begun = subst (λ (x : ClassSide). HasBegunAs config x.sight turn.who turn.moment (crawling_of x.class.number turn.moment)) (sym (c.side.view_is ∙ c.class.view_is)) c.requires.begun in
+    may_try_whole g.N.Named.board.table config _ c.args.caller.now side.owner side.seen side.state (crawling_of side.state.number turn.moment) c.store.invariant.1 kept
+    c.side.invariant.0 c.side.invariant.1 begun c.requires.caller
 
 pub invariant_of-class : goal.invariant_of-class
 invariant_of-class g c =
     let table = g.N.Named.board.table in
     let config = g.N.Named.config in
-    let made = c.crawl-done in
+    let turn = c.args.call.turn in
+    let made = c.crawl in
     let old : ClassSide = class_side c.side.inside.owner c.side.inside.seen c.side.inside.state in
     let new : ClassSide = class_side made.new.self.owner.now made.new.self.seen.now made.new.class in
-    let One : Type 0 = CountsOne c.store.inside.config c.side.inside.state new.class c.args.turn c.args.link c.args.histogram.now made.new.histogram in
+    let One : Type 0 = CountsOne c.store.inside.config c.side.inside.state new.class turn c.args.link c.args.histogram.now made.new.histogram in
     let reclaims = on_ok_more made.result _ _ (λ (one : One). one.reclaims) made.ensures.counted in
-    let made_so = gains_crawled old.class.number c.args.turn.who c.args.turn.moment old.class.history new.class.history _ _ made.result reclaims made.ensures.err in
-    let call = crawling_of old.class.number c.args.turn.moment in
-    let begun = subst (λ (x : ClassSide). HasBegunAs config x.sight c.args.turn.who c.args.turn.moment (crawling_of x.class.number c.args.turn.moment)) (sym (c.side.view_is ∙ c.class.view_is)) c.requires.begun in
-    subst (IsLockedClass table config) (sym (ap (λ (o : OwnerView). class_side o made.new.self.seen.now made.new.class) c.catch_up_class.ensures))
-    (locked_gains table config old new c.args.turn.who c.args.turn.moment call (subst (IsLockedClass table config) (sym c.side.view_is) c.class.invariant)
+    let made_so = gains_crawled old.class.number turn.who turn.moment old.class.history new.class.history _ _ made.result reclaims made.ensures.err in
+    let call = crawling_of old.class.number turn.moment in
+    let begun = subst (λ (x : ClassSide). HasBegunAs config x.sight turn.who turn.moment (crawling_of x.class.number turn.moment)) (sym (c.side.view_is ∙ c.class.view_is)) c.requires.begun in
+    locked_gains table config old new turn.who turn.moment call (subst (IsLockedClass table config) (sym c.side.view_is) c.class.invariant)
     made.ensures.left.served.kept (ap (λ (v : ClassView). v.number) made.ensures.left.grows.same)
-    (begun_as_sees config old.sight new.sight c.args.turn.who c.args.turn.moment call made.ensures.left.walked.sees begun) made.ensures.left.walked.sees made_so.0 made_so.1)
+    (begun_as_sees config old.sight new.sight turn.who turn.moment call made.ensures.left.walked.sees begun) made.ensures.left.walked.sees made_so.0 made_so.1
 
 pub returns-clause-counted : goal.returns-clause-counted
 returns-clause-counted g c =
-    let made = c.crawl-done in
+    let made = c.crawl in
     let of : c.side.inside.state ≡ c.args.class.now.class = ap (λ (x : ClassSide). x.class) (c.side.view_is ∙ c.class.view_is) in
     let with : c.store.inside.config ≡ g.N.Named.config = c.store.invariant.1 in
-    let P : ClassView → Config → Type 0 = λ v config. OnOk made.result (CountsOne config v made.new.class c.args.turn c.args.link c.args.histogram.now made.new.histogram) in
+    let P : ClassView → Config → Type 0 = λ v config. OnOk made.result (CountsOne config v made.new.class c.args.call.turn c.args.link c.args.histogram.now made.new.histogram) in
     subst (λ (v : ClassView). P v g.N.Named.config) of (subst (P c.side.inside.state) with made.ensures.counted)
+
+pub returns-clause-still : goal.returns-clause-still
+returns-clause-still g c =
+    let of : c.side.inside.state ≡ c.args.class.now.class = ap (λ (x : ClassSide). x.class) (c.side.view_is ∙ c.class.view_is) in
+    let still = subst (λ (v : ClassView). StillCalls (IsOfWalk g.N.Named.config v.number) c.args.call.turn.who.turn c.args.caller.now c.crawl.new.self.caller.now) of c.crawl.ensures.references.3 in
+    search (rules, still)

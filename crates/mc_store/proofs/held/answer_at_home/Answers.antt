@@ -6,9 +6,11 @@ use Rattle.mc_item.specs.declared.{item.StripeNo.StripeNo}
 use Rattle.mc_segment.specs.ClassState.{ClassView}
 use Rattle.mc_board.specs.Histories.{Grows}
 use Rattle.mc_board.specs.declared.rule.Sight.{Sight}
-use Rattle.mc_stripe.specs.{StripeCalls.KeepsSite, StripeState.Stripe}
-use Rattle.mc_store.specs.{Earned.HasGivenUp, Earned.IsEarnedAt, Full.HasSeenFull, Full.LacksEntries, Held.Ends, Held.Suffice, Held.class_held, Sides.StripeSide}
-use Rattle.mc_store.proofs.{CallerLemmas.search_sees, NeededClassLemmas.begun_search, NeededClassLemmas.suffice_behind}
+use Rattle.mc_stripe.specs.{StripeCalls.KeepsSite, StripeState.Stripe, StripeState.cache_now, Trying.item_of}
+use Rattle.mc_store.specs.{Earned.HasGivenUp, Earned.IsEarnedAt, Full.HasSeenFull, Full.LacksEntries, Held.Ends, Held.Suffice, Held.class_held}
+use Rattle.mc_store.specs.Sides.{StripeSide}
+use Rattle.mc_store.proofs.{CallerLemmas.search_sees, NeededClassLemmas.begun_search, NeededClassLemmas.fresh_needs, NeededClassLemmas.suffice_behind}
+use Rattle.mc_store.proofs.EnteredLemmas.{classes_tried, tries_asked, tries_both}
 use Rattle.mc_store.proofs.FullLemmas.{entries_short, full_search, seen_full_grows}
 use Rattle.mc_store.proofs.UnderLockLemmas.{site_both, site_itself}
 use Rattle.mc_store.proofs.CommandEndLemmas.{ends_cut, ends_err, ends_made, searched_same, searched_walk, suffice_same}
@@ -24,7 +26,7 @@ unreachable-requires g c =
     let mid = c.search.new.own.stripe in
     let class = c.args.home.now.class.number in
     let other = class_held c.args.other.now in
-    let suffices = subst (λ (n : ClassNo). Suffice (Some n) other mid command turn.moment) (sym c.search.ensures.number)
+    let suffices = subst (λ (n : ClassNo). Suffice (Some n) other mid command turn.moment) (sym c.search.ensures.same.0)
     (suffice_behind config turn class s mid c.search.ensures.site c.search.ensures.walked (Some class) other command refl c.requires.wants.fresh c.requires.wants.suffice) in
     let tried = rw c.in-Wants.is at c.in_ok-reply.ensures.tried in
     no_burial mid command turn.moment (Some c.search.new.home.class.number) other suffices c.in-Burial.field-0 (rw c.in-Burial.is at tried.2)
@@ -38,7 +40,7 @@ unreachable-requires-in-Classes g c =
     let mid = c.search.new.own.stripe in
     let class = c.args.home.now.class.number in
     let other = class_held c.args.other.now in
-    let suffices = subst (λ (n : ClassNo). Suffice (Some n) other mid command turn.moment) (sym c.search.ensures.number)
+    let suffices = subst (λ (n : ClassNo). Suffice (Some n) other mid command turn.moment) (sym c.search.ensures.same.0)
     (suffice_behind config turn class s mid c.search.ensures.site c.search.ensures.walked (Some class) other command refl c.requires.wants.fresh c.requires.wants.suffice) in
     let tried = rw c.in-Wants.is at c.in_ok-reply.ensures.tried in
     absurd ((rw c.in-Classes.is at tried.2).1 suffices)
@@ -53,7 +55,8 @@ returns-in_err-reply g c =
     let searched = searched_walk config command c.args.task.turn s mid c.args.home.now.class.number alive c.requires.wants.fresh c.search.ensures.walked in
     ends_err config command c.args.task.turn s mid alive searched c.search.ensures.site c.try_home.new.own c.args.caller.now c.try_home.new.caller
     c.from_residual-in_err-reply.result c.in_err-reply.field-0.0 c.from_residual-in_err-reply.ensures.1
-    c.try_home.ensures.site c.in_err-reply.ensures.err.0 c.in_err-reply.ensures.err.1 (λ is. inl (c.try_home.ensures.full (c.in_err-reply.was ∙ ap Err is)))
+    c.try_home.ensures.site c.in_err-reply.ensures.err.0
+    (tries_both config command c.args.task.turn c.search.ensures.same.1 c.in_err-reply.ensures.err.1) (λ is. inl (c.try_home.ensures.full (c.in_err-reply.was ∙ ap Err is)))
 
 pub returns-in_err-search : goal.returns-in_err-search
 returns-in_err-search g c =
@@ -63,8 +66,8 @@ returns-in_err-search g c =
     let mid = c.search.new.own.stripe in
     let alive = c.requires.wants.suffice.alive in
     let searched = searched_walk config command c.args.task.turn s mid c.args.home.now.class.number alive c.requires.wants.fresh c.search.ensures.walked in
-    ends_err config command c.args.task.turn s mid alive searched c.search.ensures.site c.search.new.own c.args.caller.now c.args.caller.now
-    c.from_residual.result c.in_err-search.field-0.0 c.from_residual.ensures.1 (site_itself mid) refl refl
+    ends_err config command c.args.task.turn s mid alive searched c.search.ensures.site c.search.new.own c.args.caller.now c.search.new.caller
+    c.from_residual.result c.in_err-search.field-0.0 c.from_residual.ensures.1 (site_itself mid) refl c.search.ensures.same.1
     (λ is.
     let full = c.search.ensures.full (c.in_err-search.was ∙ ap Err is) in
     full_search config s mid c.search.new.own.sight command c.args.task.turn.moment c.args.home.now.class.number alive c.requires.wants.fresh full.0 full.1)
@@ -78,17 +81,37 @@ returns-in-Made g c =
     let alive = c.requires.wants.suffice.alive in
     let searched = searched_walk config command c.args.task.turn s mid c.args.home.now.class.number alive c.requires.wants.fresh c.search.ensures.walked in
     ends_made config command c.args.task.turn s mid alive searched c.search.ensures.site c.try_home.new.own c.args.caller.now c.try_home.new.caller (record { reply = c.in-Made.reply; woken = c.in-Made.woken })
-    c.law.ensures.made_with c.try_home.ensures.site (rw c.in-Made.is at c.in_ok-reply.ensures.tried)
+    c.law.ensures.made_with c.try_home.ensures.site
+    (made_caller config mid c.try_home.new.own c.args.caller.now c.search.new.caller c.try_home.new.caller command c.args.task.turn (record { reply = c.in-Made.reply; woken = c.in-Made.woken })
+    c.search.ensures.same.1 (rw c.in-Made.is at c.in_ok-reply.ensures.tried))
 
 pub search-requires : goal.search-requires
 search-requires g c = record {
-  begun = begun_search g.N.Named.config c.args.own.now.sight c.args.task.turn.who c.args.task.command.now c.args.task.turn.moment c.args.own.now.stripe c.args.home.now.class.number c.requires.wants.fresh
-      c.requires.begun;
+  begun = (
+    begun_search g.N.Named.config c.args.own.now.sight c.args.task.turn.who c.args.task.command.now c.args.task.turn.moment c.args.own.now.stripe c.args.home.now.class.number c.requires.wants.fresh
+        c.requires.begun,
+    c.requires.called.asked.number,
+    fresh_needs c.args.own.now.stripe.site (cache_now c.args.own.now.stripe).versions (item_of c.args.own.now.stripe c.args.task.command.now) c.args.task.command.now c.args.task.turn.moment
+        c.args.home.now.class.number c.requires.wants.fresh,
+  );
 }
+
+pub try_home-requires-clause-called : goal.try_home-requires-clause-called
+try_home-requires-clause-called g c =
+    let turn = c.args.task.turn in
+    record {
+      own = c.requires.called.own ∙ ap (λ (t : Site). record { 0 = t.stripe }) (sym c.search.ensures.site.site);
+      asked = tries_asked g.N.Named.config c.args.task.command.now turn c.search.ensures.same.1 c.requires.called.asked;
+      early = c.requires.called.early;
+    }
 
 pub refuse-requires-clause-begun : goal.refuse-requires-clause-begun
 refuse-requires-clause-begun g c =
-    (c.args.task.turn.moment, search_sees g.N.Named.config c.search.new.own.sight c.try_home.new.own.sight c.args.task.turn.who c.args.task.turn.moment c.try_home.ensures.sees c.search.ensures.begun)
+    let turn = c.args.task.turn in
+    let tried = rw c.in-Wants.is at c.in_ok-reply.ensures.tried in (
+      (turn.moment, search_sees g.N.Named.config c.search.new.own.sight c.try_home.new.own.sight turn.who turn.moment c.try_home.ensures.sees c.search.ensures.begun),
+      c.requires.called.asked.number ∙ sym (tried.1.number_is ∙ c.search.ensures.same.1.number_is),
+    )
 
 pub returns-in_err-place-in-Room : goal.returns-in_err-place-in-Room
 returns-in_err-place-in-Room g c =
@@ -100,12 +123,14 @@ returns-in_err-place-in-Room g c =
     let searched = searched_walk config command c.args.task.turn s mid c.args.home.now.class.number alive c.requires.wants.fresh c.search.ensures.walked in
     let tried = rw c.in-Wants.is at c.in_ok-reply.ensures.tried in
     let full = rw c.in-Room.is at tried.2 in
-    subst (λ (x : StripeSide). Ends config s x c.args.caller.now c.try_home.new.caller command c.args.task.turn c.from_residual-in_err-place-in-Room.result) (sym c.refuse.ensures.own)
-    (ends_err config command c.args.task.turn s mid alive searched c.search.ensures.site c.try_home.new.own c.args.caller.now c.try_home.new.caller c.from_residual-in_err-place-in-Room.result
+    let turn = c.args.task.turn in
+    let caller = tries_both config command turn (tries_both config command turn c.search.ensures.same.1 tried.1) (classes_tried config command turn c.refuse.ensures.same.1) in
+    subst (λ (x : StripeSide). Ends config s x c.args.caller.now c.refuse.new.caller command c.args.task.turn c.from_residual-in_err-place-in-Room.result) (sym c.refuse.ensures.same.0)
+    (ends_err config command c.args.task.turn s mid alive searched c.search.ensures.site c.try_home.new.own c.args.caller.now c.refuse.new.caller c.from_residual-in_err-place-in-Room.result
     c.in_err-place-in-Room.field-0.0
-    c.from_residual-in_err-place-in-Room.ensures.1 c.try_home.ensures.site tried.0 tried.1
+    c.from_residual-in_err-place-in-Room.ensures.1 c.try_home.ensures.site tried.0 caller
     (λ is. full_search config s c.try_home.new.own.stripe c.try_home.new.own.sight command c.args.task.turn.moment c.args.home.now.class.number alive c.requires.wants.fresh
-    (subst (HasSeenFull config c.try_home.new.own.sight) (full.0.number_is ∙ c.search.ensures.number) full.0.seen)
+    (subst (HasSeenFull config c.try_home.new.own.sight) (full.0.number_is ∙ c.search.ensures.same.0) full.0.seen)
     (refuse_short config c.try_home.new.own.sight c.try_home.new.home.class c.refuse.new.lent.class full.0.short c.in_err-place-in-Room.ensures.err.0
     (c.refuse.ensures.full (c.in_err-place-in-Room.was ∙ ap Err is)))))
 
@@ -125,8 +150,22 @@ try_home-requires-in-Room-clause-refused g c =
     (subst (λ (n : ClassNo). HasGivenUp config mine n turn.who turn.moment (key_of command) home.history) (sym full.0.number_is) given_up) in
     let noted = earned_now config mine turn (key_of command) lent c.refuse.new.lent.class c.in_ok-place-in-Room.place c.in_ok-place-in-Room.ensures.refused c.in_ok-place-in-Room.ensures.place here in
     let number : c.refuse.new.own.stripe.site.stripe ≡ s.site.stripe =
-    ap (λ (x : StripeSide). x.stripe.site.stripe) c.refuse.ensures.own ∙ (ap (λ (t : Site). t.stripe) c.try_home.ensures.site.site ∙ ap (λ (t : Site). t.stripe) c.search.ensures.site.site) in
+    ap (λ (x : StripeSide). x.stripe.site.stripe) c.refuse.ensures.same.0 ∙ (ap (λ (t : Site). t.stripe) c.try_home.ensures.site.site ∙ ap (λ (t : Site). t.stripe) c.search.ensures.site.site) in
     subst (λ (n : ℕ). IsEarnedAt config (record { 0 = n }) c.refuse.new.lent.class.number turn.who turn.moment (key_of command) c.in_ok-place-in-Room.place c.refuse.new.lent.class.history) (sym number) noted
+
+pub try_home-requires-in-Room-clause-called : goal.try_home-requires-in-Room-clause-called
+try_home-requires-in-Room-clause-called g c =
+    let turn = c.args.task.turn in
+    let tried = rw c.in-Wants.is at c.in_ok-reply.ensures.tried in
+    let number = ap (λ (x : StripeSide). x.stripe.site) c.refuse.ensures.same.0 ∙ (c.try_home.ensures.site.site ∙ c.search.ensures.site.site) in
+    let config = g.N.Named.config in
+    let command = c.args.task.command.now in
+    let caller = tries_both config command turn (tries_both config command turn c.search.ensures.same.1 tried.1) (classes_tried config command turn c.refuse.ensures.same.1) in
+    record {
+      own = c.requires.called.own ∙ ap (λ (t : Site). record { 0 = t.stripe }) (sym number);
+      asked = tries_asked config command turn caller c.requires.called.asked;
+      early = c.requires.called.early;
+    }
 
 pub returns-in-Made-2 : goal.returns-in-Made-2
 returns-in-Made-2 g c =
@@ -138,13 +177,15 @@ returns-in-Made-2 g c =
     let last = c.refuse.new.own.stripe in
     let alive = c.requires.wants.suffice.alive in
     let tried = rw c.in-Wants.is at c.in_ok-reply.ensures.tried in
-    let own = ap (λ (x : StripeSide). x.stripe) c.refuse.ensures.own in
+    let own = ap (λ (x : StripeSide). x.stripe) c.refuse.ensures.same.0 in
     let site = subst (λ (t : Stripe). KeepsSite mid t) (sym own) c.try_home.ensures.site in
     let same = ap (λ (t : Stripe). t.history) own ∙ tried.0 in
+    let caller = tries_both config command turn (tries_both config command turn c.search.ensures.same.1 tried.1) (classes_tried config command turn c.refuse.ensures.same.1) in
     let searched = searched_walk config command turn s mid c.args.home.now.class.number alive c.requires.wants.fresh c.search.ensures.walked in
     ends_made config command turn s last alive (searched_same mid last site same command turn.moment config turn.who s searched) (site_both s mid last c.search.ensures.site site)
     c.try_home-in-Room.new.own c.args.caller.now c.try_home-in-Room.new.caller (record { reply = c.in-Made-2.reply; woken = c.in-Made-2.woken }) c.law.ensures.made_with c.try_home-in-Room.ensures.site
-    (made_caller config last c.try_home-in-Room.new.own c.args.caller.now c.try_home.new.caller c.try_home-in-Room.new.caller command turn (record { reply = c.in-Made-2.reply; woken = c.in-Made-2.woken }) tried.1
+    (made_caller config last c.try_home-in-Room.new.own c.args.caller.now c.refuse.new.caller c.try_home-in-Room.new.caller command turn (record { reply = c.in-Made-2.reply; woken = c.in-Made-2.woken })
+    caller
     (rw c.in-Made-2.is at c.in_ok-reply-in-Room.ensures.tried))
 
 pub returns-in_err-reply-in-Room : goal.returns-in_err-reply-in-Room
@@ -157,13 +198,15 @@ returns-in_err-reply-in-Room g c =
     let last = c.refuse.new.own.stripe in
     let alive = c.requires.wants.suffice.alive in
     let tried = rw c.in-Wants.is at c.in_ok-reply.ensures.tried in
-    let own = ap (λ (x : StripeSide). x.stripe) c.refuse.ensures.own in
+    let own = ap (λ (x : StripeSide). x.stripe) c.refuse.ensures.same.0 in
     let site = subst (λ (t : Stripe). KeepsSite mid t) (sym own) c.try_home.ensures.site in
     let same = ap (λ (t : Stripe). t.history) own ∙ tried.0 in
+    let caller = tries_both config command turn (tries_both config command turn c.search.ensures.same.1 tried.1) (classes_tried config command turn c.refuse.ensures.same.1) in
     let searched = searched_walk config command turn s mid c.args.home.now.class.number alive c.requires.wants.fresh c.search.ensures.walked in
     ends_err config command turn s last alive (searched_same mid last site same command turn.moment config turn.who s searched) (site_both s mid last c.search.ensures.site site)
     c.try_home-in-Room.new.own c.args.caller.now c.try_home-in-Room.new.caller c.from_residual-in_err-reply-in-Room.result c.in_err-reply-in-Room.field-0.0 c.from_residual-in_err-reply-in-Room.ensures.1
-    c.try_home-in-Room.ensures.site c.in_err-reply-in-Room.ensures.err.0 (c.in_err-reply-in-Room.ensures.err.1 ∙ tried.1) (λ is. inl (c.try_home-in-Room.ensures.full (c.in_err-reply-in-Room.was ∙ ap Err is)))
+    c.try_home-in-Room.ensures.site c.in_err-reply-in-Room.ensures.err.0 (tries_both config command turn caller c.in_err-reply-in-Room.ensures.err.1)
+    (λ is. inl (c.try_home-in-Room.ensures.full (c.in_err-reply-in-Room.was ∙ ap Err is)))
 
 pub returns-in-Place : goal.returns-in-Place
 returns-in-Place g c =
@@ -175,7 +218,8 @@ returns-in-Place g c =
     let alive = c.requires.wants.suffice.alive in
     let tried = rw c.in-Wants.is at c.in_ok-reply.ensures.tried in
     let searched = searched_walk config command turn s mid c.args.home.now.class.number alive c.requires.wants.fresh c.search.ensures.walked in
-    ends_cut config command turn s mid alive searched c.search.ensures.site c.try_home.new.own c.args.caller.now c.try_home.new.caller HistoryFull c.try_home.ensures.site tried.0 tried.1
+    ends_cut config command turn s mid alive searched c.search.ensures.site c.try_home.new.own c.args.caller.now c.try_home.new.caller HistoryFull c.try_home.ensures.site tried.0
+    (tries_both config command turn c.search.ensures.same.1 tried.1)
     (λ is.
     let entries = rw c.in-Place.is at tried.2 in
     let end = c.try_home.new.own in
@@ -199,22 +243,23 @@ returns-in-Wants-2 g c =
     let full = rw c.in-Room.is at tried.2 in
     let class = c.args.home.now.class.number in
     let other = class_held c.args.other.now in
-    let number : c.refuse.new.lent.class.number ≡ class = ap (λ (v : ClassView). v.number) c.in_ok-place-in-Room.ensures.refused ∙ (full.0.number_is ∙ c.search.ensures.number) in
+    let number : c.refuse.new.lent.class.number ≡ class = ap (λ (v : ClassView). v.number) c.in_ok-place-in-Room.ensures.refused ∙ (full.0.number_is ∙ c.search.ensures.same.0) in
     let behind = suffice_behind config turn class s mid c.search.ensures.site c.search.ensures.walked (Some class) other command refl c.requires.wants.fresh c.requires.wants.suffice in
-    let own = ap (λ (x : StripeSide). x.stripe) c.refuse.ensures.own in
+    let own = ap (λ (x : StripeSide). x.stripe) c.refuse.ensures.same.0 in
     let site = subst (λ (t : Stripe). KeepsSite mid t) (sym own) c.try_home.ensures.site in
     let same = ap (λ (t : Stripe). t.history) own ∙ tried.0 in
+    let caller = tries_both config command turn (tries_both config command turn c.search.ensures.same.1 tried.1) (classes_tried config command turn c.refuse.ensures.same.1) in
     let later = suffice_same mid last site same command turn.moment (Some class) other behind in
     let again_suffice = subst (λ (n : ClassNo). Suffice (Some n) (class_held c.try_home.new.other) last c.args.task.command.now turn.moment) (sym number)
     (subst (λ (o : Option ClassNo). Suffice (Some class) o last c.args.task.command.now turn.moment) (sym full.1) later) in
     let searched = searched_walk config command turn s mid class alive c.requires.wants.fresh c.search.ensures.walked in
     ends_cut config command turn s last alive (searched_same mid last site same command turn.moment config turn.who s searched) (site_both s mid last c.search.ensures.site site)
-    c.try_home-in-Room.new.own c.args.caller.now c.try_home-in-Room.new.caller HistoryFull c.try_home-in-Room.ensures.site again.0 (again.1 ∙ tried.1)
+    c.try_home-in-Room.new.own c.args.caller.now c.try_home-in-Room.new.caller HistoryFull c.try_home-in-Room.ensures.site again.0 (tries_both config command turn caller again.1)
     (λ is.
     let end = c.try_home-in-Room.new.own in
-    let told : c.refuse.new.own.sight ≡ c.try_home.new.own.sight = ap (λ (x : StripeSide). x.sight) c.refuse.ensures.own in
+    let told : c.refuse.new.own.sight ≡ c.try_home.new.own.sight = ap (λ (x : StripeSide). x.sight) c.refuse.ensures.same.0 in
     let seen = seen_full_grows config c.try_home.new.own.sight end.sight (subst (λ (t : Sight). Grows t end.sight) told c.try_home-in-Room.ensures.sees)
-    (subst (HasSeenFull config c.try_home.new.own.sight) (full.0.number_is ∙ c.search.ensures.number) full.0.seen) in
+    (subst (HasSeenFull config c.try_home.new.own.sight) (full.0.number_is ∙ c.search.ensures.same.0) full.0.seen) in
     full_search config s end.stripe end.sight command turn.moment class alive c.requires.wants.fresh seen
     (entries_short config last end.sight command turn.moment
     (wants_place config last end c.args.task.command.now turn.moment (Some c.refuse.new.lent.class.number)

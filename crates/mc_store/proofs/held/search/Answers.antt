@@ -1,7 +1,25 @@
 use Rattle.std.proofs.Common.{ap, sym}
 use Rattle.mc_segment.specs.ClassState.{ClassView}
+use Rattle.mc_store.proofs.EnteredLemmas.{walk_tried}
 use Rattle.mc_store.proofs.{EarnedRefusalLemmas.gone_through, VisitedStripeLemmas.full_vain}
 use Rattle.mc_store.proofs.held.search.Goals as goal
+
+pub make_room_under-requires : goal.make_room_under-requires
+make_room_under-requires g c = record { begun = (c.requires.begun.0, c.requires.begun.1) }
+
+pub returns-clause-same : goal.returns-clause-same
+returns-clause-same g c =
+    let class = c.args.home.now.class.number in (
+      ap (λ (v : ClassView). v.number) c.make_room_under.ensures.class.same,
+      walk_tried g.N.Named.config c.args.task.command.now c.args.task.turn class c.requires.begun.2 c.side.ensures.kept.held.is c.make_room_under.ensures.leaves.1,
+    )
+
+pub returns-in_err-make_room_under-clause-same : goal.returns-in_err-make_room_under-clause-same
+returns-in_err-make_room_under-clause-same g c =
+    let class = c.args.home.now.class.number in (
+      ap (λ (v : ClassView). v.number) c.make_room_under.ensures.class.same,
+      walk_tried g.N.Named.config c.args.task.command.now c.args.task.turn class c.requires.begun.2 c.side.ensures.kept.held.is c.make_room_under.ensures.leaves.1,
+    )
 
 pub returns-clause-tried : goal.returns-clause-tried
 returns-clause-tried g c = λ full key own alive.

@@ -90,7 +90,7 @@ returns-in_ok-ready_class-in-None-clause-tried g c =
     (λ stay class crowded. crowded_lacks config s end.sight command turn.moment given class crowded (side.class, refused, turn.who, offers) side.class
     (crowded_home given key (item_of s command) turn.moment (row_at s command turn.moment) class crowded side.class refused turn.who refl offers) short)
     c.try_on_one.result
-    (subst (λ (t : Stripe). IfOk c.try_on_one.result (IsTriedUnder t end.stripe c.args.caller.now c.try_on_one.new.caller command turn given (side ∷ []) (new ∷ []))) same c.try_on_one.ensures.tried)
+    (subst (λ (t : Stripe). IfOk c.try_on_one.result (IsTriedUnder config t end.stripe c.args.caller.now c.try_on_one.new.caller command turn given (side ∷ []) (new ∷ []))) same c.try_on_one.ensures.tried)
 
 pub returns-in_ok-ready_class-in-None-clause-sees : goal.returns-in_ok-ready_class-in-None-clause-sees
 returns-in_ok-ready_class-in-None-clause-sees g c = grows_trans c.args.own.now.sight c.meet.new.own.sight c.try_on_one.new.own.sight c.meet.ensures.grows c.try_on_one.ensures.sees
@@ -230,7 +230,8 @@ returns-in_ok-ready_class-in-Some-2-clause-tried g c =
     (λ lacks. crowded_lacks config s end.sight command turn.moment given class crowded (side.class, refused, turn.who, offers) side_b.class lacks short_b)
     (crowded_both given key (item_of s command) turn.moment (row_at s command turn.moment) class crowded side.class side_b.class refused turn.who far offers offers_b))
     c.try_on_two.result
-    (subst (λ (t : Stripe). IfOk c.try_on_two.result (IsTriedUnder t end.stripe c.args.caller.now c.try_on_two.new.caller command turn given (side ∷ side_b ∷ []) (new ∷ new_b ∷ []))) same c.try_on_two.ensures.tried)
+    (subst (λ (t : Stripe). IfOk c.try_on_two.result (IsTriedUnder config t end.stripe c.args.caller.now c.try_on_two.new.caller command turn given (side ∷ side_b ∷ []) (new ∷ new_b ∷ []))) same
+    c.try_on_two.ensures.tried)
 
 pub returns-in_ok-ready_class-in-Some-2-clause-sees : goal.returns-in_ok-ready_class-in-Some-2-clause-sees
 returns-in_ok-ready_class-in-Some-2-clause-sees g c =

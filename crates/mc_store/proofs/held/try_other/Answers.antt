@@ -41,7 +41,8 @@ returns-clause-tried g c =
     (crowded_other given (key_of command) (item_of s command) turn.moment (row_at s command turn.moment) class crowded side.class refl offers)
     (short_seen table config was side met.sight side.class.room is c.meet.new.own.sight end.sight c.side.ensures.kept c.meet.ensures.told c.try_on_one.ensures.sees))
     c.try_on_one.result
-    (subst (λ (t : Stripe). IfOk c.try_on_one.result (IsTriedUnder t end.stripe c.args.caller.now c.try_on_one.new.caller command turn given (side ∷ []) (c.try_on_one.new.class ∷ []))) same c.try_on_one.ensures.tried)
+    (subst (λ (t : Stripe). IfOk c.try_on_one.result (IsTriedUnder config t end.stripe c.args.caller.now c.try_on_one.new.caller command turn given (side ∷ []) (c.try_on_one.new.class ∷ []))) same
+    c.try_on_one.ensures.tried)
 
 pub returns-clause-sees : goal.returns-clause-sees
 returns-clause-sees g c = grows_trans c.args.own.now.sight c.meet.new.own.sight c.try_on_one.new.own.sight c.meet.ensures.grows c.try_on_one.ensures.sees

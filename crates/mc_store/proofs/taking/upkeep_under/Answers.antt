@@ -1,21 +1,36 @@
-use Rattle.mc_store.specs.Hits.{queue_of}
+use Rattle.std.proofs.Common.{ap, subst, sym, ◌∙◌}
+use Rattle.mc_item.specs.declared.item.ClassNo.{ClassNo}
+use Rattle.mc_segment.specs.ClassState.{ClassView}
+use Rattle.mc_store.specs.{Accounts.IsOfWalk, Accounts.StillCalls, Hits.queue_of}
+use Rattle.mc_store.proofs.AccountLemmas.{still_both}
 use Rattle.mc_store.proofs.TakenHitLemmas.{takes_all, takes_cut, upkept_by}
 use Rattle.mc_store.proofs.taking.upkeep_under.Goals as goal
 
 pub returns-clause-upkept : goal.returns-clause-upkept
 returns-clause-upkept g c =
-    upkept_by g.N.Named.config c.args.class.now.class c.advance_hits.new.class.class c.juggle_under.new.class.class c.args.turn c.args.hands.now c.advance_hits.new.hands c.juggle_under.result
+    upkept_by g.N.Named.config c.args.class.now.class c.advance_hits.new.class.class c.juggle_under.new.class.class c.args.call.turn c.args.hands.now c.advance_hits.new.hands c.juggle_under.result
     c.advance_hits.ensures.class c.juggle_under.ensures.class c.in_ok-advance_hits.ensures.advanced c.juggle_under.ensures.juggle
 
 pub returns-clause-taken : goal.returns-clause-taken
 returns-clause-taken g c =
-    takes_all (queue_of c.args.class.now.class.number) c.args.turn c.args.hands.now c.advance_hits.new.hands c.args.class.now.class.history c.advance_hits.new.class.class.history
+    takes_all (queue_of c.args.class.now.class.number) c.args.call.turn c.args.hands.now c.advance_hits.new.hands c.args.class.now.class.history c.advance_hits.new.class.class.history
     c.in_ok-advance_hits.ensures.advanced
 
 pub returns-in_err-advance_hits-clause-taken : goal.returns-in_err-advance_hits-clause-taken
 returns-in_err-advance_hits-clause-taken g c =
-    takes_cut (queue_of c.args.class.now.class.number) c.args.turn c.args.hands.now c.advance_hits.new.hands c.args.class.now.class.history c.advance_hits.new.class.class.history
+    takes_cut (queue_of c.args.class.now.class.number) c.args.call.turn c.args.hands.now c.advance_hits.new.hands c.args.class.now.class.history c.advance_hits.new.class.class.history
     c.in_err-advance_hits.ensures.cut
 
 pub returns-clause-same : goal.returns-clause-same
 returns-clause-same g c = c.advance_hits.ensures.same
+
+pub juggle_under-requires-clause-caller : goal.juggle_under-requires-clause-caller
+juggle_under-requires-clause-caller g c = c.requires.upkeep.number ∙ sym c.advance_hits.ensures.still.number_is
+
+pub returns-clause-still : goal.returns-clause-still
+returns-clause-still g c =
+    let config = g.N.Named.config in
+    let turn = c.args.call.turn.who.turn in
+    still_both (IsOfWalk config c.args.class.now.class.number) turn c.args.caller.now c.advance_hits.new.caller c.juggle_under.new.caller c.advance_hits.ensures.still
+    (subst (λ (n : ClassNo). StillCalls (IsOfWalk config n) turn c.advance_hits.new.caller c.juggle_under.new.caller)
+    (ap (λ (v : ClassView). v.number) c.advance_hits.ensures.class.same) c.juggle_under.ensures.still)

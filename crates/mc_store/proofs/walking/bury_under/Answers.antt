@@ -1,4 +1,4 @@
-use Rattle.std.proofs.Common.{◌≡◌, ◌<◌, ◌+◌, ◌⊎◌, length, ◌++◌, ◌∷◌, [], List, Some, ap, sym, subst, ◌∙◌}
+use Rattle.std.proofs.Common.{◌≡◌, ◌<◌, ◌+◌, ◌⊎◌, length, ◌++◌, ◌∷◌, [], List, Some, ap, sym, subst, ◌∙◌, rules}
 use Rattle.mc_item.specs.Command.{key_of}
 use Rattle.mc_item.specs.declared.{fault.Fault.TheVariants.HistoryFull, stripe_event.Cause.TheVariants.Expired, stripe_event.StripeEvent.StripeEvent}
 use Rattle.mc_item.specs.declared.item.ClassNo.{ClassNo}
@@ -9,10 +9,14 @@ use Rattle.mc_pull.specs.declared.{judge.Done.Done, judge.Judge.TheVariants.Dead
 use Rattle.mc_pull.proofs.OneStripeGateLemmas.{settle_walked}
 use Rattle.mc_store.proofs.{DeadEntryLemmas.dead_listed, DeadEntryLemmas.dead_reclaimed, DeadEntryLemmas.told_dead, ShortHistoryLemmas.err_is, OwnEventLemmas.GainsFit, OwnEventLemmas.gains_settled}
 use Rattle.mc_store.proofs.{OwnEventLemmas.locked_told, CallerLemmas.begun_sees, CallerLemmas.command_any, CallerLemmas.command_sees, LockKeepsLemmas.grows_trans}
-use Rattle.mc_store.specs.{Sides.ClassSide, Sides.StripeSide, Locked.HasBegun, Locked.HasBegunCommand, Locked.IsLockedClass, Full.LacksPlaces, Serving.class_side}
+use Rattle.mc_store.specs.{Accounts.IsClassLock, Passes.CallerView, Sides.ClassSide, Sides.StripeSide, Full.LacksPlaces, Serving.class_side}
+use Rattle.mc_store.specs.Locked.{HasBegun, HasBegunCommand, IsHeldClass, IsLockedClass}
+use Rattle.mc_store.proofs.{AccountLemmas.still_settled, EnteredLemmas.is_class_lock}
 use Rattle.mc_store.specs.declared.locked.LockedStripe.TheInside as stripes
 use Rattle.mc_store.specs.declared.locked.LockedClass.TheInside as classes
 use Rattle.mc_store.proofs.SyncedStepLemmas.{class_paired, class_told_more, settled_grows, settled_told, short_paired, stripe_paired}
+use Rattle.mc_pull.specs.Walker.{walker_of}
+use Rattle.mc_store.proofs.OwnCallLemmas.{class_settled_by, stripe_walked_by}
 use Rattle.mc_store.proofs.walking.bury_under.Goals as goal
 use Rattle.mc_board.specs.Histories.{Grows}
 
@@ -43,6 +47,55 @@ catch_up_class-requires-clause-behind g c =
     let grows = settled_grows _ _ _ _ q c.settle-done.result c.settle-done.ensures.settled c.settle-done.ensures.err in
     class_told_more _ _ c.class-inside.inside.0.0.owner.history grows c.class-inside.invariant.0
 
+pub catch_up_stripe-requires-clause-by : goal.catch_up_stripe-requires-clause-by
+catch_up_stripe-requires-clause-by g c =
+    let q = question c.args.task.turn.who c.args.link.number Dead c.args.task.turn.moment in
+    let did = c.settle-done.ensures in
+    let walked = settle_walked _ _ _ _ q did.keeps.site did.keeps.agreement c.settle-done.result did.settled did.err in
+    stripe_walked_by (walker_of c.class-inside.inside.0.0.state q.who q.moment) c.own-inside.inside.0.0.owner.history _ _ c.own-inside.invariant.0 walked.grows
+
+pub catch_up_class-requires-clause-by : goal.catch_up_class-requires-clause-by
+catch_up_class-requires-clause-by g c =
+    let q = question c.args.task.turn.who c.args.link.number Dead c.args.task.turn.moment in
+    class_settled_by _ _ _ _ q c.settle-done.result c.settle-done.ensures.settled c.settle-done.ensures.err c.class-inside.inside.0.0.owner.history c.class-inside.invariant.0
+
+pub catch_up_class-requires-clause-caller : goal.catch_up_class-requires-clause-caller
+catch_up_class-requires-clause-caller g c = c.requires.begun.1 ∙ sym (ap (λ (k : CallerView). k.number) c.catch_up_stripe.ensures.entered)
+
+pub returns-in_err-done-clause-same : goal.returns-in_err-done-clause-same
+returns-in_err-done-clause-same g c =
+    let own_is = ap (λ (l : stripes.Inside g.row.N.Denot). l.side) c.own-inside.view_is in
+    let lent_is = ap (λ (l : classes.Inside g.row.N.Denot). l.side) c.class-inside.view_is in
+    let own = c.own-inside.inside.0.0 in
+    let lent = c.class-inside.inside.0.0 in
+    let config = g.N.Named.config in
+    let s_is : own.state ≡ c.args.own.now.stripe = ap (λ (x : StripeSide). x.stripe) (own_is ∙ c.own.view_is) ∙ ap (λ (x : StripeSide). x.stripe) c.meet.ensures.own in
+    let lock : own.owner.lock ≡ own.state.site.stripe = subst (λ (x : StripeSide). x.lock ≡ x.stripe.site.stripe) (sym own_is) c.own.invariant.lock_is in
+    let held = subst (IsHeldClass g.N.Named.board.table config) (sym lent_is) c.class.invariant.held in
+    let of : IsClassLock config lent.owner.lock = subst (IsClassLock config) (sym held.lock_is) (is_class_lock config lent.state.number held.is) in
+    let still =
+    still_settled config c.args.own.now.stripe.site.stripe c.args.task.command.now c.args.caller.now c.catch_up_stripe.new.self c.catch_up_class.new.self c.args.task.turn.who.turn
+    own.owner.lock (length own.owner.history) (length c.settle-done.new.stripe.history) lent.owner.lock (length lent.owner.history) (length c.settle-done.new.class.history)
+    c.catch_up_stripe.ensures.entered c.catch_up_class.ensures.entered (lock ∙ ap (λ (s : Stripe). s.site.stripe) s_is) of in
+    (search rules, still)
+
+pub returns-clause-same : goal.returns-clause-same
+returns-clause-same g c =
+    let own_is = ap (λ (l : stripes.Inside g.row.N.Denot). l.side) c.own-inside.view_is in
+    let lent_is = ap (λ (l : classes.Inside g.row.N.Denot). l.side) c.class-inside.view_is in
+    let own = c.own-inside.inside.0.0 in
+    let lent = c.class-inside.inside.0.0 in
+    let config = g.N.Named.config in
+    let s_is : own.state ≡ c.args.own.now.stripe = ap (λ (x : StripeSide). x.stripe) (own_is ∙ c.own.view_is) ∙ ap (λ (x : StripeSide). x.stripe) c.meet.ensures.own in
+    let lock : own.owner.lock ≡ own.state.site.stripe = subst (λ (x : StripeSide). x.lock ≡ x.stripe.site.stripe) (sym own_is) c.own.invariant.lock_is in
+    let held = subst (IsHeldClass g.N.Named.board.table config) (sym lent_is) c.class.invariant.held in
+    let of : IsClassLock config lent.owner.lock = subst (IsClassLock config) (sym held.lock_is) (is_class_lock config lent.state.number held.is) in
+    let still =
+    still_settled config c.args.own.now.stripe.site.stripe c.args.task.command.now c.args.caller.now c.catch_up_stripe.new.self c.catch_up_class.new.self c.args.task.turn.who.turn
+    own.owner.lock (length own.owner.history) (length c.settle-done.new.stripe.history) lent.owner.lock (length lent.owner.history) (length c.settle-done.new.class.history)
+    c.catch_up_stripe.ensures.entered c.catch_up_class.ensures.entered (lock ∙ ap (λ (s : Stripe). s.site.stripe) s_is) of in
+    (search rules, still)
+
 pub invariant_of-own : goal.invariant_of-own
 invariant_of-own g c =
     let own_is = ap (λ (l : stripes.Inside g.row.N.Denot). l.side) c.own-inside.view_is in
@@ -55,12 +108,12 @@ invariant_of-own g c =
     let q = question c.args.task.turn.who c.args.link.number Dead c.args.task.turn.moment in
     let begun = subst (λ (x : StripeSide). HasBegun g.N.Named.config x.sight c.args.task.turn.who c.args.task.turn.moment) (sym (own_is ∙ c.own.view_is))
     (begun_sees g.N.Named.config c.args.own.now.sight c.meet.new.own.sight c.args.task.turn.who c.args.task.turn.moment c.meet.ensures.grows (command_any g.N.Named.config c.args.own.now.sight c.args.task.turn.who
-    c.args.task.turn.moment c.requires.begun)) in
+    c.args.task.turn.moment c.requires.begun.0)) in
     let walked = settle_walked _ _ _ _ q c.settle-done.ensures.keeps.site c.settle-done.ensures.keeps.agreement c.settle-done.result c.settle-done.ensures.settled c.settle-done.ensures.err in
     let grows = settled_grows _ _ _ _ q c.settle-done.result c.settle-done.ensures.settled c.settle-done.ensures.err in
     stripe_paired g.N.Named.board.table g.N.Named.config c.own.inside.side c.class.inside.side c.own.invariant c.class.invariant.held own.state own.owner own.seen own_is lent.state lent.owner lent.seen lent_is
     agree c.settle-done.new.stripe c.settle-done.new.class c.settle-done.ensures.keeps.site grows c.history-2.ensures.legal c.law-2.ensures.lawful c.settle-done.ensures.keeps.agreement c.settle-done.ensures.keeps.sight
-    c.catch_up_stripe.new.owner c.catch_up_stripe.ensures c.catch_up_class.new.owner c.catch_up_class.ensures c.hear.new.self c.learn.new.stripe c.hear.new.class c.hear-2.new.self
+    c.catch_up_stripe.new.owner c.catch_up_stripe.ensures.told c.catch_up_class.new.owner c.catch_up_class.ensures.told c.hear.new.self c.learn.new.stripe c.hear.new.class c.hear-2.new.self
     c.hear.ensures.class c.hear.ensures.told c.hear.ensures.grows (c.learn.ensures.stripe ∙ c.hear-2.ensures.stripe) c.hear-2.ensures.told c.hear-2.ensures.grows _ begun walked.grows
 
 pub invariant_of-class : goal.invariant_of-class
@@ -76,12 +129,12 @@ invariant_of-class g c =
     let grows = settled_grows _ _ _ _ q c.settle-done.result c.settle-done.ensures.settled c.settle-done.ensures.err in
     let held = class_paired g.N.Named.board.table g.N.Named.config c.own.inside.side c.class.inside.side c.own.invariant c.class.invariant.held own.state own.owner own.seen own_is lent.state lent.owner lent.seen lent_is
     agree c.settle-done.new.stripe c.settle-done.new.class c.settle-done.ensures.keeps.site grows c.history-2.ensures.legal c.law-2.ensures.lawful c.settle-done.ensures.keeps.agreement c.settle-done.ensures.keeps.sight
-    c.catch_up_stripe.new.owner c.catch_up_stripe.ensures c.catch_up_class.new.owner c.catch_up_class.ensures c.hear.new.self c.hear-2.new.stripe c.hear.new.class c.hear-2.new.self
+    c.catch_up_stripe.new.owner c.catch_up_stripe.ensures.told c.catch_up_class.new.owner c.catch_up_class.ensures.told c.hear.new.self c.hear-2.new.stripe c.hear.new.class c.hear-2.new.self
     c.hear.ensures.class c.hear.ensures.told c.hear.ensures.grows c.hear-2.ensures.stripe c.hear-2.ensures.told c.hear-2.ensures.grows in
     let who = c.args.task.turn.who in
     let moment = c.args.task.turn.moment in
     let begun = subst (λ (x : StripeSide). HasBegunCommand g.N.Named.config x.sight who moment) (sym (own_is ∙ c.own.view_is))
-    (command_sees g.N.Named.config c.args.own.now.sight c.meet.new.own.sight who moment c.meet.ensures.grows c.requires.begun) in
+    (command_sees g.N.Named.config c.args.own.now.sight c.meet.new.own.sight who moment c.meet.ensures.grows c.requires.begun.0) in
     let told = grows_trans own.seen.sight c.hear.new.self.sight c.learn.new.self.sight c.hear.ensures.grows
     (subst (λ (x : StripeSide). Grows x.sight c.learn.new.self.sight) c.hear-2.ensures.stripe c.learn.ensures.learnt) in
     let asked = command_sees g.N.Named.config own.seen.sight c.learn.new.self.sight who moment told begun in
@@ -106,12 +159,12 @@ invariant_of-own-2 g c =
     let q = question c.args.task.turn.who c.args.link.number Dead c.args.task.turn.moment in
     let begun = subst (λ (x : StripeSide). HasBegun g.N.Named.config x.sight c.args.task.turn.who c.args.task.turn.moment) (sym (own_is ∙ c.own.view_is))
     (begun_sees g.N.Named.config c.args.own.now.sight c.meet.new.own.sight c.args.task.turn.who c.args.task.turn.moment c.meet.ensures.grows (command_any g.N.Named.config c.args.own.now.sight c.args.task.turn.who
-    c.args.task.turn.moment c.requires.begun)) in
+    c.args.task.turn.moment c.requires.begun.0)) in
     let walked = settle_walked _ _ _ _ q c.settle-done.ensures.keeps.site c.settle-done.ensures.keeps.agreement c.settle-done.result c.settle-done.ensures.settled c.settle-done.ensures.err in
     let grows = settled_grows _ _ _ _ q c.settle-done.result c.settle-done.ensures.settled c.settle-done.ensures.err in
     stripe_paired g.N.Named.board.table g.N.Named.config c.own.inside.side c.class.inside.side c.own.invariant c.class.invariant.held own.state own.owner own.seen own_is lent.state lent.owner lent.seen lent_is
     agree c.settle-done.new.stripe c.settle-done.new.class c.settle-done.ensures.keeps.site grows c.history-2.ensures.legal c.law-2.ensures.lawful c.settle-done.ensures.keeps.agreement c.settle-done.ensures.keeps.sight
-    c.catch_up_stripe.new.owner c.catch_up_stripe.ensures c.catch_up_class.new.owner c.catch_up_class.ensures c.hear.new.self c.learn.new.stripe c.hear.new.class c.hear-2.new.self
+    c.catch_up_stripe.new.owner c.catch_up_stripe.ensures.told c.catch_up_class.new.owner c.catch_up_class.ensures.told c.hear.new.self c.learn.new.stripe c.hear.new.class c.hear-2.new.self
     c.hear.ensures.class c.hear.ensures.told c.hear.ensures.grows (c.learn.ensures.stripe ∙ c.hear-2.ensures.stripe) c.hear-2.ensures.told c.hear-2.ensures.grows _ begun walked.grows
 
 pub invariant_of-class-2 : goal.invariant_of-class-2
@@ -127,12 +180,12 @@ invariant_of-class-2 g c =
     let grows = settled_grows _ _ _ _ q c.settle-done.result c.settle-done.ensures.settled c.settle-done.ensures.err in
     let held = class_paired g.N.Named.board.table g.N.Named.config c.own.inside.side c.class.inside.side c.own.invariant c.class.invariant.held own.state own.owner own.seen own_is lent.state lent.owner lent.seen lent_is
     agree c.settle-done.new.stripe c.settle-done.new.class c.settle-done.ensures.keeps.site grows c.history-2.ensures.legal c.law-2.ensures.lawful c.settle-done.ensures.keeps.agreement c.settle-done.ensures.keeps.sight
-    c.catch_up_stripe.new.owner c.catch_up_stripe.ensures c.catch_up_class.new.owner c.catch_up_class.ensures c.hear.new.self c.hear-2.new.stripe c.hear.new.class c.hear-2.new.self
+    c.catch_up_stripe.new.owner c.catch_up_stripe.ensures.told c.catch_up_class.new.owner c.catch_up_class.ensures.told c.hear.new.self c.hear-2.new.stripe c.hear.new.class c.hear-2.new.self
     c.hear.ensures.class c.hear.ensures.told c.hear.ensures.grows c.hear-2.ensures.stripe c.hear-2.ensures.told c.hear-2.ensures.grows in
     let who = c.args.task.turn.who in
     let moment = c.args.task.turn.moment in
     let begun = subst (λ (x : StripeSide). HasBegunCommand g.N.Named.config x.sight who moment) (sym (own_is ∙ c.own.view_is))
-    (command_sees g.N.Named.config c.args.own.now.sight c.meet.new.own.sight who moment c.meet.ensures.grows c.requires.begun) in
+    (command_sees g.N.Named.config c.args.own.now.sight c.meet.new.own.sight who moment c.meet.ensures.grows c.requires.begun.0) in
     let told = grows_trans own.seen.sight c.hear.new.self.sight c.learn.new.self.sight c.hear.ensures.grows
     (subst (λ (x : StripeSide). Grows x.sight c.learn.new.self.sight) c.hear-2.ensures.stripe c.learn.ensures.learnt) in
     let asked = command_sees g.N.Named.config own.seen.sight c.learn.new.self.sight who moment told begun in
@@ -162,7 +215,7 @@ returns-in_err-done-clause-full g c = λ is.
     subst (λ (n : ClassNo). (end.stripe.limit < length end.stripe.history + 2) ⊎ LacksPlaces g.N.Named.config end.sight n 2) (sym of)
     (short_paired g.N.Named.board.table g.N.Named.config c.own.inside.side c.class.inside.side c.own.invariant c.class.invariant.held own.state own.owner own.seen own_is lent.state lent.owner lent.seen lent_is
     agree c.settle-done.new.stripe c.settle-done.new.class c.settle-done.ensures.keeps.site grows c.history-2.ensures.legal c.law-2.ensures.lawful c.settle-done.ensures.keeps.agreement c.settle-done.ensures.keeps.sight
-    c.catch_up_stripe.new.owner c.catch_up_stripe.ensures c.catch_up_class.new.owner c.catch_up_class.ensures c.hear.new.self c.learn.new.stripe c.hear.new.class c.hear-2.new.self
+    c.catch_up_stripe.new.owner c.catch_up_stripe.ensures.told c.catch_up_class.new.owner c.catch_up_class.ensures.told c.hear.new.self c.learn.new.stripe c.hear.new.class c.hear-2.new.self
     c.hear.ensures.class c.hear.ensures.told c.hear.ensures.grows (c.learn.ensures.stripe ∙ c.hear-2.ensures.stripe) c.hear-2.ensures.told c.hear-2.ensures.grows
     (subst (MayFail c.settle-done.new.class c.settle-done.new.stripe) same c.in_err-done.ensures.refusal.full))
 

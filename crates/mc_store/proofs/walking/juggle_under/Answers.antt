@@ -1,34 +1,52 @@
-use Rattle.std.proofs.Common.{◌≡◌, List, ap, ◌∙◌, subst, sym}
+use Rattle.std.proofs.Common.{rules, ◌≡◌, List, ap, ◌∙◌, subst, sym}
 use Rattle.mc_item.specs.declared.{config.Config.Config, counts.Moves.Moves}
-use Rattle.mc_board.specs.Views.{OwnerView}
 use Rattle.mc_segment.specs.ClassState.{ClassView}
 use Rattle.mc_pull.specs.{Juggle.IsJuggle, Rounds.rounds}
 use Rattle.mc_pull.specs.declared.looking.Answer.{Answer}
-use Rattle.mc_store.specs.{Callers.juggling_of, Locked.HasBegunAs, Locked.IsLockedClass, Serving.class_side, Sides.ClassSide}
+use Rattle.mc_store.specs.{Accounts.IsOfWalk, Accounts.StillCalls, Callers.juggling_of, Locked.HasBegunAs, Locked.IsLockedClass, Serving.class_side, Sides.ClassSide}
 use Rattle.mc_store.proofs.{CallerLemmas.begun_as_sees, GateLemmas.ok_more, OwnEventLemmas.locked_gains, OwnEventLemmas.none_own, OwnEventLemmas.of_juggling}
+use Rattle.mc_store.proofs.OwnCallLemmas.{may_try_whole}
 use Rattle.mc_store.proofs.walking.juggle_under.Goals as goal
 
 pub returns-clause-juggle : goal.returns-clause-juggle
 returns-clause-juggle g c =
     let of : c.side.inside.state ≡ c.args.class.now.class = ap (λ (x : ClassSide). x.class) (c.side.view_is ∙ c.class.view_is) in
     let with : c.store.inside.config ≡ g.N.Named.config = c.store.invariant.1 in
-    let P : ClassView → Config → Moves → Type 0 = λ v config moves. (xs : List Answer) × IsJuggle (rounds v c.args.turn.who c.args.turn.moment config) v.history xs c.juggle-moves.new.class.history moves in
-    ok_more c.juggle-moves.result _ (P c.args.class.now.class g.N.Named.config)
+    let P : ClassView → Config → Moves → Type 0 = λ v config moves. (xs : List Answer) × IsJuggle (rounds v c.args.call.turn.who c.args.call.turn.moment config) v.history xs c.juggle.new.class.history moves in
+    ok_more c.juggle.result _ (P c.args.class.now.class g.N.Named.config)
     (λ moves made. subst (λ (v : ClassView). P v g.N.Named.config moves) of (subst (λ (config : Config). P c.side.inside.state config moves) with made))
-    c.juggle-moves.ensures.juggle
+    c.juggle.ensures.juggle
+
+pub juggle-requires : goal.juggle-requires
+juggle-requires g c =
+    let config = g.N.Named.config in
+    let turn = c.args.call.turn in
+    let side = c.side.inside in
+    let kept = subst (IsLockedClass g.N.Named.board.table config) (sym c.side.view_is) c.class.invariant in
+    let begun = subst (λ (x : ClassSide). HasBegunAs config x.sight turn.who turn.moment (juggling_of x.class.number turn.moment)) (sym (c.side.view_is ∙ c.class.view_is)) c.requires.begun in
+    record {
+      gate = may_try_whole g.N.Named.board.table config _ c.args.caller.now side.owner side.seen side.state (juggling_of side.state.number turn.moment) c.store.invariant.1 kept
+          c.side.invariant.0 c.side.invariant.1 begun c.requires.caller;
+    }
 
 pub invariant_of-class : goal.invariant_of-class
 invariant_of-class g c =
     let table = g.N.Named.board.table in
     let config = g.N.Named.config in
-    let made = c.juggle-moves in
+    let turn = c.args.call.turn in
+    let made = c.juggle in
     let old : ClassSide = class_side c.side.inside.owner c.side.inside.seen c.side.inside.state in
     let new : ClassSide = class_side made.new.self.owner.now made.new.self.seen.now made.new.class in
-    let call = juggling_of old.class.number c.args.turn.moment in
-    let begun = subst (λ (x : ClassSide). HasBegunAs config x.sight c.args.turn.who c.args.turn.moment (juggling_of x.class.number c.args.turn.moment)) (sym (c.side.view_is ∙ c.class.view_is)) c.requires.begun in
-    subst (IsLockedClass table config) (sym (ap (λ (o : OwnerView). class_side o made.new.self.seen.now made.new.class) c.catch_up_class.ensures))
-    (locked_gains table config old new c.args.turn.who c.args.turn.moment call (subst (IsLockedClass table config) (sym c.side.view_is) c.class.invariant)
+    let call = juggling_of old.class.number turn.moment in
+    let begun = subst (λ (x : ClassSide). HasBegunAs config x.sight turn.who turn.moment (juggling_of x.class.number turn.moment)) (sym (c.side.view_is ∙ c.class.view_is)) c.requires.begun in
+    locked_gains table config old new turn.who turn.moment call (subst (IsLockedClass table config) (sym c.side.view_is) c.class.invariant)
     made.ensures.left.served.kept (ap (λ (v : ClassView). v.number) made.ensures.gains.grows.same)
-    (begun_as_sees config old.sight new.sight c.args.turn.who c.args.turn.moment call made.ensures.left.walked.sees begun) made.ensures.left.walked.sees made.ensures.left.walked.gains
-    (of_juggling old.class.number made.ensures.left.walked.gains.events c.args.turn.moment
-    (none_own c.args.turn.who c.args.turn.moment c.side.inside.state made.new.class made.ensures.left.walked.gains made.ensures.gains)))
+    (begun_as_sees config old.sight new.sight turn.who turn.moment call made.ensures.left.walked.sees begun) made.ensures.left.walked.sees made.ensures.left.walked.gains
+    (of_juggling old.class.number made.ensures.left.walked.gains.events turn.moment
+    (none_own turn.who turn.moment c.side.inside.state made.new.class made.ensures.left.walked.gains made.ensures.gains))
+
+pub returns-clause-still : goal.returns-clause-still
+returns-clause-still g c =
+    let of : c.side.inside.state ≡ c.args.class.now.class = ap (λ (x : ClassSide). x.class) (c.side.view_is ∙ c.class.view_is) in
+    let still = subst (λ (v : ClassView). StillCalls (IsOfWalk g.N.Named.config v.number) c.args.call.turn.who.turn c.args.caller.now c.juggle.new.self.caller.now) of c.juggle.ensures.still in
+    search (rules, still)

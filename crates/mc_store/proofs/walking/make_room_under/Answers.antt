@@ -1,4 +1,4 @@
-use Rattle.std.proofs.Common.{rules, Bool, false, ◌≡◌, ℕ, List, ap, ◌∙◌, subst, sym}
+use Rattle.std.proofs.Common.{Bool, false, ◌≡◌, ℕ, List, ap, ◌∙◌, length, refl, subst, sym}
 use mathlib.Core.List.{IsPrefix}
 use Rattle.mc_item.specs.declared.event.Event.{Event}
 use Rattle.mc_segment.specs.ClassState.{ClassView}
@@ -8,11 +8,11 @@ use Rattle.mc_board.specs.{Histories.list_at, Views.OwnerView, Views.SeenView}
 use Rattle.mc_board.specs.declared.rule.Sight.{Sight}
 use Rattle.mc_pull.specs.{Lone.StripeGrows, Rounds.IsRoom, Rounds.rounds, Walker.walker_of}
 use Rattle.mc_pull.specs.declared.looking.Answer.{Answer}
-use Rattle.mc_store.specs.{Earned.IsSearchInVain, Locked.HasBegunSearch, Locked.IsLockedClass, Locked.class_lock, Serving.class_side}
+use Rattle.mc_store.specs.{Accounts.IsOfWalk, Accounts.StillCalls, Earned.IsSearchInVain, Locked.HasBegunSearch, Locked.IsLockedClass, Locked.class_lock, Serving.class_side}
 use Rattle.mc_store.specs.Sides.{ClassSide, StripeSide, class_told}
 use Rattle.mc_store.specs.declared.locked.LockedStripe.TheInside.{Inside}
-use Rattle.mc_store.proofs.{GateLemmas.ok_more, GateLemmas.room_full, LockKeepsLemmas.grows_trans, SyncedStepLemmas.stripe_heard, OwnEventLemmas.locked_commanded, OwnEventLemmas.suited_search}
-use Rattle.mc_store.proofs.{CallerLemmas.search_any, CallerLemmas.search_sees, LentClassLemmas.class_behind}
+use Rattle.mc_store.proofs.{GateLemmas.ok_more, GateLemmas.room_full, GateLemmas.still_caught_up, LockKeepsLemmas.grows_trans, SyncedStepLemmas.stripe_heard, OwnEventLemmas.locked_commanded, OwnEventLemmas.suited_search}
+use Rattle.mc_store.proofs.{CallerLemmas.search_any, CallerLemmas.search_sees, LentClassLemmas.class_behind, OwnCallLemmas.served_whole}
 use Rattle.mc_store.proofs.walking.make_room_under.Goals as goal
 
 pub invariant_of-own : goal.invariant_of-own
@@ -30,15 +30,21 @@ returns-clause-room g c =
     (λ found made. subst (λ (w : ClassView). P c.args.class.now.class w found) (sym last) (subst (λ (v : ClassView). P v c.make_room_with-found.new.class found) of made))
     c.make_room_with-found.ensures.room
 
-pub returns-clause-stripe : goal.returns-clause-stripe
-returns-clause-stripe g c =
+pub returns-clause-leaves : goal.returns-clause-leaves
+returns-clause-leaves g c =
     let of : c.side.inside.state ≡ c.args.class.now.class = ap (λ (x : ClassSide). x.class) (c.side.view_is ∙ (c.class.view_is ∙ c.learn_from.ensures.class)) in
-    let walked = c.make_room_with-found.new.own.stripe in
+    let new = c.make_room_with-found.new in
+    let walked = new.own.stripe in
     let own_is = ap (λ (l : Inside g.row.N.Denot). l.side) c.own-inside.view_is in
-    let last : c.hear.new.self.stripe ≡ walked = ap (λ (x : StripeSide). x.stripe) c.hear.ensures.told ∙ ap (λ (x : StripeSide). x.stripe) (own_is ∙ c.own.view_is) in
-    subst (λ (s : Stripe). StripeGrows (walker_of c.args.class.now.class c.args.task.turn.who c.args.task.turn.moment) c.args.own.now.stripe s) (sym last)
-    (subst (λ (x : StripeSide). StripeGrows (walker_of c.args.class.now.class c.args.task.turn.who c.args.task.turn.moment) x.stripe walked) c.learn_from.ensures.same
-    (subst (λ (v : ClassView). StripeGrows (walker_of v c.args.task.turn.who c.args.task.turn.moment) c.learn_from.new.stripe.stripe walked) of c.make_room_with-found.ensures.left.stripe))
+    let last : c.hear.new.self.stripe ≡ walked = ap (λ (x : StripeSide). x.stripe) c.hear.ensures.told ∙ ap (λ (x : StripeSide). x.stripe) (own_is ∙ c.own.view_is) in (
+      subst (λ (s : Stripe). StripeGrows (walker_of c.args.class.now.class c.args.task.turn.who c.args.task.turn.moment) c.args.own.now.stripe s) (sym last)
+          (subst (λ (x : StripeSide). StripeGrows (walker_of c.args.class.now.class c.args.task.turn.who c.args.task.turn.moment) x.stripe walked) c.learn_from.ensures.same
+          (subst (λ (v : ClassView). StripeGrows (walker_of v c.args.task.turn.who c.args.task.turn.moment) c.learn_from.new.stripe.stripe walked) of c.make_room_with-found.ensures.left.stripe)),
+      subst (λ (v : ClassView). StillCalls (IsOfWalk g.N.Named.config v.number) c.args.task.turn.who.turn c.args.caller.now c.catch_up_class.new.self) of
+          (still_caught_up g.N.Named.board.table g.N.Named.config c.args.task.turn.who c.args.task.turn.who new.owner new.seen c.side.inside.state new.class c.args.caller.now new.caller c.catch_up_class.new.self
+          (length new.owner.history) (length new.class.history) c.make_room_with-found.ensures.still c.make_room_with-found.ensures.left.served
+          (ap (λ (v : ClassView). v.number) c.make_room_with-found.ensures.class.same) refl c.catch_up_class.ensures.entered),
+    )
 
 pub returns-clause-tried : goal.returns-clause-tried
 returns-clause-tried g c =
@@ -57,8 +63,8 @@ returns-clause-full g c = λ is.
     let told : list_at c.hear.new.self.sight.seen c.catch_up_class.new.owner.lock ≡ class_told new.class.history =
     ap (λ (t : Sight). list_at t.seen c.catch_up_class.new.owner.lock) (ap (λ (x : StripeSide). x.sight) c.hear.ensures.told)
     ∙ list_at_same c.learn.new.self.sight.seen c.catch_up_class.new.owner.lock (class_told new.class.history) in
-    (room_full g.N.Named.board.table g.N.Named.config new.owner new.seen new.class c.make_room_with-found.ensures.left.served c.hear.new.self.sight c.catch_up_class.new.owner.lock
-    (ap (λ (o : OwnerView). o.lock) c.catch_up_class.ensures) told (grows_trans new.seen.sight c.learn.new.self.sight c.hear.new.self.sight c.learn.ensures.theirs c.hear.ensures.grows)
+    (room_full g.N.Named.board.table g.N.Named.config c.args.task.turn.who new.owner new.seen new.class c.make_room_with-found.ensures.left.served c.hear.new.self.sight c.catch_up_class.new.owner.lock
+    (ap (λ (o : OwnerView). o.lock) c.catch_up_class.ensures.told) told (grows_trans new.seen.sight c.learn.new.self.sight c.hear.new.self.sight c.learn.ensures.theirs c.hear.ensures.grows)
     c.make_room_with-found.result c.make_room_with-found.ensures.fault is)
 
 pub returns-clause-seen : goal.returns-clause-seen
@@ -74,7 +80,7 @@ returns-clause-seen g c =
     ∙ list_at_same c.learn.new.self.sight.seen c.catch_up_class.new.owner.lock (class_told new.class.history) in
     let kept : was.lock ≡ class_lock config was.class.number = subst (λ (x : ClassSide). x.lock ≡ class_lock config x.class.number) side c.class.invariant.held.lock_is in
     let lock : c.catch_up_class.new.owner.lock ≡ was.lock =
-    ap (λ (o : OwnerView). o.lock) c.catch_up_class.ensures
+    ap (λ (o : OwnerView). o.lock) c.catch_up_class.ensures.told
     ∙ (c.make_room_with-found.ensures.left.served.kept.lock_is
     ∙ (ap (λ (v : ClassView). class_lock config v.number) grows.same ∙ (ap (λ (v : ClassView). class_lock config v.number) of ∙ sym kept))) in
     subst (λ (n : ℕ). IsPrefix (class_told was.class.history) (list_at c.hear.new.self.sight.seen n)) lock
@@ -85,8 +91,14 @@ pub make_room_with-found-requires : goal.make_room_with-found-requires
 make_room_with-found-requires g c =
     let begun = search_any g.N.Named.config c.side.inside.seen.sight c.args.task.turn.who c.args.task.turn.moment
     (subst (λ (x : ClassSide). HasBegunSearch g.N.Named.config x.sight c.args.task.turn.who c.args.task.turn.moment) (sym (c.side.view_is ∙ c.class.view_is))
-    (search_sees g.N.Named.config c.args.own.now.sight c.learn_from.new.self.sight c.args.task.turn.who c.args.task.turn.moment c.learn_from.ensures.learnt c.requires.begun)) in
-    record { tokens = record { served = search rules; begun = begun } }
+    (search_sees g.N.Named.config c.args.own.now.sight c.learn_from.new.self.sight c.args.task.turn.who c.args.task.turn.moment c.learn_from.ensures.learnt c.requires.begun.0)) in
+    let side = c.side.inside in
+    let kept = subst (IsLockedClass g.N.Named.board.table g.N.Named.config) (sym c.side.view_is) c.class.invariant in
+    let served = served_whole g.N.Named.board.table g.N.Named.config c.args.task.turn.who side.owner side.seen side.state kept.held c.side.invariant.0 c.side.invariant.1 in
+    record { tokens = record { served = served; begun = begun; number = c.requires.begun.1 } }
+
+pub catch_up_class-requires-clause-caller : goal.catch_up_class-requires-clause-caller
+catch_up_class-requires-clause-caller g c = c.requires.begun.1 ∙ sym c.make_room_with-found.ensures.still.number_is
 
 pub invariant_of-class : goal.invariant_of-class
 invariant_of-class g c =
@@ -97,10 +109,10 @@ invariant_of-class g c =
     let old : ClassSide = class_side c.side.inside.owner c.side.inside.seen c.side.inside.state in
     let mid : ClassSide = class_side new.owner new.seen new.class in
     let begun = subst (λ (x : ClassSide). HasBegunSearch config x.sight c.args.task.turn.who c.args.task.turn.moment) (sym (c.side.view_is ∙ c.class.view_is))
-    (search_sees config c.args.own.now.sight c.learn_from.new.self.sight c.args.task.turn.who c.args.task.turn.moment c.learn_from.ensures.learnt c.requires.begun) in
+    (search_sees config c.args.own.now.sight c.learn_from.new.self.sight c.args.task.turn.who c.args.task.turn.moment c.learn_from.ensures.learnt c.requires.begun.0) in
     let last : c.hear.new.class ≡ mid =
     c.hear.ensures.class
-    ∙ (ap (λ (x : SeenView). class_side c.catch_up_class.new.owner x new.class) c.learn.ensures.other ∙ ap (λ (o : OwnerView). class_side o new.seen new.class) c.catch_up_class.ensures) in
+    ∙ (ap (λ (x : SeenView). class_side c.catch_up_class.new.owner x new.class) c.learn.ensures.other ∙ ap (λ (o : OwnerView). class_side o new.seen new.class) c.catch_up_class.ensures.told) in
     let searched = search_sees config old.sight mid.sight c.args.task.turn.who c.args.task.turn.moment made.ensures.left.searched.walked.sees begun in
     subst (IsLockedClass table config) (sym last)
     (locked_commanded table config old mid c.args.task.turn.who c.args.task.turn.moment (subst (IsLockedClass table config) (sym c.side.view_is) c.class.invariant)
@@ -115,7 +127,7 @@ pub returns-clause-begun : goal.returns-clause-begun
 returns-clause-begun g c =
     let config = g.N.Named.config in
     let begun = subst (λ (x : ClassSide). HasBegunSearch config x.sight c.args.task.turn.who c.args.task.turn.moment) (sym (c.side.view_is ∙ c.class.view_is))
-    (search_sees config c.args.own.now.sight c.learn_from.new.self.sight c.args.task.turn.who c.args.task.turn.moment c.learn_from.ensures.learnt c.requires.begun) in
+    (search_sees config c.args.own.now.sight c.learn_from.new.self.sight c.args.task.turn.who c.args.task.turn.moment c.learn_from.ensures.learnt c.requires.begun.0) in
     let seen = c.make_room_with-found.new.seen.sight in
     let told = c.learn.new.self.sight in
     search_sees g.N.Named.config c.side.inside.seen.sight c.hear.new.self.sight c.args.task.turn.who c.args.task.turn.moment

@@ -3,7 +3,7 @@ use Rattle.mc_board.proofs.ShareKeeps.{begins_as, opens_as}
 use Rattle.mc_board.proofs.board.Board.open.Goals as goal
 
 pub of_words-requires : goal.of_words-requires
-of_words-requires c = begins_as _ c.args.locks _ (omega arith) (search rules)
+of_words-requires c = begins_as _ _ (search rules)
 
 pub split_seat-requires : goal.split_seat-requires
 split_seat-requires c = (

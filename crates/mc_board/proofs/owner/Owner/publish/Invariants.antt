@@ -5,3 +5,14 @@ use Rattle.mc_board.proofs.owner.Owner.publish.Given as goal
 -- the events that the history doesn't have yet
 abbrev pub ghosts-end : goal.ghosts-end
 ghosts-end g a = record { entries = drop (length (owned_of a.place.now.me.0).history) (map g.E.Logged.entry a._named_by.now.items) }
+
+-- the places of these events
+abbrev pub ghosts-enter : goal.ghosts-enter
+ghosts-enter g a = record {
+  span = record {
+    turn = a._who.turn;
+    lock = (owned_of a.place.now.me.0).lock;
+    from = length (owned_of a.place.now.me.0).history;
+    until = length a._named_by.now.items;
+  };
+}

@@ -5,5 +5,6 @@ use Rattle.mc_list_tests.proofs.tests.growing_histories.publish_rounds.Given as 
 
 abbrev pub invariant-loop-round : goal.invariant-loop-round
 invariant-loop-round l =
-    (l.owner.board ≡ l.fn.owner.board) × (l.owner.lock ≡ l.fn.owner.lock) × (l.owner.history ≡ map Class l.history.items)
+    (l.pair.class.board ≡ l.fn.pair.class.board) × (l.pair.class.lock ≡ l.fn.pair.class.lock) × (l.pair.class.history ≡ map Class l.history.items)
     × HasRounds l.history.items l.round × (2 * l.rounds ≤ l.history.room + 2 * l.round) × (l.history.kept ≡ false)
+    × (l.pair.caller.board ≡ l.fn.pair.caller.board) × (l.pair.caller.first ≡ l.pair.caller.lock)

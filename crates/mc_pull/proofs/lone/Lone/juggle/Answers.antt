@@ -14,6 +14,6 @@ juggle-requires c = record {
   gate = record {
     served = record { class = c.requires.gate.class; serves = c.requires.gate.serves };
     surveys = λ first begun gate history survey by at walked. walked_survey _ _ _ _ _ survey walked;
-    outlasts = record { survey = λ gate config v who moment room serves. serves; room = λ gate config v room serves. serves };
+    outlasts = record { survey = λ gate config v who moment room serves. serves; room = λ gate config v who room serves. serves };
   };
 }

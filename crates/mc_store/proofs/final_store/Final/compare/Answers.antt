@@ -1,7 +1,8 @@
 use Rattle.std.proofs.Common.{◌≡◌, List, slice_get, ap, ◌∙◌, subst}
 use Rattle.mc_board.specs.Histories.{HasSeen}
 use Rattle.mc_store.specs.{Callers.calls_told, Finals.FinalView, Locked.caller_place, Passes.CallerView, Passes.PassView, Sides.ClassSide, Sides.StripeSide}
-use Rattle.mc_store.proofs.ClosedCallLemmas.{its_own, its_own_in_classes}
+use Rattle.mc_store.specs.{Finals.AreEntered, Sides.class_told, Sides.stripe_told}
+use Rattle.mc_store.proofs.ClosedCallLemmas.{accounted, its_own, its_own_in_classes}
 use Rattle.mc_board.specs.Histories.{list_at}
 use Rattle.mc_evidence.specs.Seen.{stripes_seen}
 use Rattle.mc_store.specs.{Finals.IsBehindStripes, Passes.ArePlaced, Passes.caller_of}
@@ -42,3 +43,16 @@ returns-clause-placed g c = λ are.
     (subst (IsBehindStripes c.pass.inside.seen.sight) (ap (λ (f : FinalView). f.stripes) c.self.view_is) c.compare_stripes.ensures.behind) in
     placed_just g.N.Named.board.table config pass stripes are own behind
     (subst (λ (p : PassView). ArePlaced config (caller_of p) (stripes_seen (list_at p.sight.seen))) c.pass.view_is c.pass.invariant.1)
+
+pub returns-clause-account : goal.returns-clause-account
+returns-clause-account g c =
+    let stripes_are : c.compare_stripes.new.stripes.items ≡ c.args.self.now.stripes = c.compare_stripes.ensures.same.0 ∙ ap (λ (f : FinalView). f.stripes) c.self.view_is in
+    let classes_are : c.compare_classes.new.classes.items ≡ c.args.self.now.classes = c.compare_classes.ensures.same.0 ∙ ap (λ (f : FinalView). f.classes) c.self.view_is in
+    accounted c.args.pass.now c.args.self.now.stripes c.args.self.now.classes
+    (λ k s e.
+    subst (λ (p : PassView). AreEntered (caller_of p) s.lock (stripe_told s.stripe.history)) c.pass.view_is
+    (c.compare_calls.ensures.entered k s (ap (λ (ys : List StripeSide). slice_get ys k) stripes_are ∙ e)))
+    (λ k s e.
+    subst (λ (p : PassView). AreEntered (caller_of p) s.lock (class_told s.class.history)) c.pass.view_is
+    (subst (λ (v : CallerView). AreEntered v s.lock (class_told s.class.history)) c.compare_calls.ensures.same.1
+    (c.compare_class_calls.ensures.entered k s (ap (λ (ys : List ClassSide). slice_get ys k) classes_are ∙ e))))

@@ -1,9 +1,17 @@
 use Rattle.std.proofs.Common.{◌≡◌, Bool, List, false}
 use Rattle.mc_pull.specs.{Rounds.IsRoom, Rounds.rounds, Walker.walker_of}
 use Rattle.mc_pull.specs.declared.looking.Answer.{Answer}
-use Rattle.mc_store.specs.{Earned.IsSearchInVain, Looked.IsOfCall}
-use Rattle.mc_store.proofs.{GateLemmas.grew_itself, GateLemmas.ok_more, VisitedStripeLemmas.looked_itself, VisitedStripeLemmas.tried_any, OwnEventLemmas.searches_none}
+use Rattle.mc_store.specs.{Accounts.IsOfWalk, Earned.IsSearchInVain, Looked.IsOfCall}
+use Rattle.mc_store.proofs.AccountLemmas.{still_none}
+use Rattle.mc_store.proofs.{GateLemmas.grew_itself, GateLemmas.ok_more, GateLemmas.served_asked, VisitedStripeLemmas.looked_itself, VisitedStripeLemmas.tried_any, OwnEventLemmas.searches_none}
 use Rattle.mc_store.proofs.gates.Holding.make_room.Goals as goal
+
+pub make_room-requires : goal.make_room-requires
+make_room-requires g c =
+    let may = c.requires.gate in
+    let me = c.args.self.now.others in
+    let served = served_asked g.N.Named.board.table g.N.Named.config c.args.context me.caller.now me.owner.now me.seen.now c.args.class.now me.who me.moment may in
+    record { gate = record { class = may.class; serves = (may.names, served, may.walks.begun, may.walks.number) } }
 
 pub returns-clause-room : goal.returns-clause-room
 returns-clause-room g c =
@@ -20,7 +28,8 @@ returns-clause-tried g c =
     let after = c.make_room.new.class.history in
     let first = looked_itself config.stripes w own xs c.args.class.now.history in
     let searched = searches_none c.args.context.turn.who c.args.context.turn.moment c.args.self.now.others.seen.now.sight c.args.class.now.history in
-    let kept = c.make_room.ensures.gate.kept c.args.self.now c.args.class.now.history (grew_itself w own, λ of. (of, first), searched) in
+    let still = still_none (IsOfWalk g.N.Named.config c.args.class.now.number) c.args.context.turn.who.turn c.args.self.now.others.caller.now in
+    let kept = c.make_room.ensures.gate.kept c.args.self.now c.args.class.now.history (grew_itself w own, λ of. (of, first), searched, still) in
     ok_more c.make_room.result _ (λ (found : Bool). found ≡ false → IsOfCall w c.args.self.now.others.who c.args.self.now.others.moment → IsSearchInVain config c.args.class.now own c.args.context.turn.who
     c.args.context.turn.moment after)
     (λ found made vain of.
@@ -35,5 +44,15 @@ returns-clause-left g c =
     let own = c.args.self.now.own.now.stripe in
     let first = looked_itself g.N.Named.config.stripes w own c.args.self.now.others.answers.now.items c.args.class.now.history in
     let searched = searches_none c.args.context.turn.who c.args.context.turn.moment c.args.self.now.others.seen.now.sight c.args.class.now.history in
-    let kept = left.kept c.args.self.now c.args.class.now.history (grew_itself w own, λ of. (of, first), searched) in
+    let still = still_none (IsOfWalk g.N.Named.config c.args.class.now.number) c.args.context.turn.who.turn c.args.self.now.others.caller.now in
+    let kept = left.kept c.args.self.now c.args.class.now.history (grew_itself w own, λ of. (of, first), searched, still) in
     record { served = left.serves.1; stripe = kept.0; searched = kept.2 }
+
+pub returns-clause-still : goal.returns-clause-still
+returns-clause-still g c =
+    let w = walker_of c.args.class.now c.args.context.turn.who c.args.context.turn.moment in
+    let own = c.args.self.now.own.now.stripe in
+    let first = looked_itself g.N.Named.config.stripes w own c.args.self.now.others.answers.now.items c.args.class.now.history in
+    let searched = searches_none c.args.context.turn.who c.args.context.turn.moment c.args.self.now.others.seen.now.sight c.args.class.now.history in
+    let still = still_none (IsOfWalk g.N.Named.config c.args.class.now.number) c.args.context.turn.who.turn c.args.self.now.others.caller.now in
+    (c.make_room.ensures.gate.kept c.args.self.now c.args.class.now.history (grew_itself w own, λ of. (of, first), searched, still)).3

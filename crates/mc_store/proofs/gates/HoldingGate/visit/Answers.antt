@@ -1,7 +1,8 @@
 use Rattle.std.proofs.Common.{rules, ◌≡◌, ◌∷◌, ◌++◌, [], List, ◌∙◌, ap, refl, subst, sym}
-use Rattle.mc_item.specs.declared.config.Config.{Config}
+use Rattle.mc_item.specs.declared.{config.Config.Config, item.Who.Who}
 use Rattle.mc_board.specs.{Histories.Grows, Views.SeenView}
-use Rattle.mc_store.specs.{Looked.IsOfCall, Serving.IsServed, Sides.StripeSide}
+use Rattle.mc_store.specs.{Accounts.IsOfWalk, Looked.IsOfCall, Serving.IsServed, Sides.StripeSide}
+use Rattle.mc_store.proofs.AccountLemmas.{still_both, still_none}
 use Rattle.mc_store.proofs.{CallerLemmas.asked_here, CallerLemmas.begun_sees, GateLemmas.grew_on}
 use Rattle.mc_stripe.specs.StripeState.{Stripe}
 use Rattle.mc_pull.specs.{Lone.StripeGrows, Looks.answer_by, Question.HasKeyOf, Question.question_of, Walker.walker_of}
@@ -21,7 +22,8 @@ judge-requires-clause-look g c =
     let own : IsOfCall (walker_of look.class.now look.ask.who look.ask.moment) me.who me.moment = (lends.1, lends.2) in
     record {
       of = gate.0;
-      served = subst (λ (v : SeenView). IsServed g.N.Named.board.table config me.owner.now v look.class.now) (sym c.learn.ensures.same) gate.1;
+      number = ap (λ (w : Who). w.caller) own.0 ∙ gate.3;
+      served = subst (λ (v : SeenView). IsServed g.N.Named.board.table config look.ask.who me.owner.now v look.class.now) (sym c.learn.ensures.same) gate.1;
       may = c.requires.look.judge;
       begun = begun_sees config me.seen.now.sight c.learn.new.self.sight look.ask.who look.ask.moment c.learn.ensures.learnt
           (asked_here config me.seen.now.sight me.who look.ask.who me.moment look.ask.moment own gate.2);
@@ -37,7 +39,9 @@ returns-then-not-lends-clause-gate g c =
     let w = walker_of look.class.now look.ask.who look.ask.moment in
     let made = c.visit.ensures in
     let left = made.gate in
-    let same = left.kept me.others look.class.now.history (refl, refl, walks_none look.ask.who look.ask.moment me.others.seen.now.sight look.class.now.history) in
+    let Suits = IsOfWalk g.N.Named.config look.class.now.number in
+    let none = still_none Suits look.ask.who.turn me.others.caller.now in
+    let same = left.kept me.others look.class.now.history (refl, refl, walks_none look.ask.who look.ask.moment me.others.seen.now.sight look.class.now.history, none) in
     let keyed = subst (λ (k : Config). HasKeyOf c.args.stripe k look.class.now q) c.requires.look.served.serves.0 c.requires.look.key in
     record {
       holds = search rules;
@@ -53,6 +57,7 @@ returns-then-not-lends-clause-gate g c =
                   c.requires.look.judge keyed (c.lends.ensures.other c.if-not-lends.true was.0.0 was.0.1) made.answer made.err),
             ),
         searches_visited _ look.ask.config.now c.args.stripe _ _ q _ _ _ _ look.class.now c.visit.new.look.class.now c.visit.new.look.judged c.visit.result kept.2 same.2.sees made.answer made.err,
+        still_both Suits look.ask.who.turn first.others.caller.now me.others.caller.now c.visit.new.self.caller.now kept.3 same.3,
       );
     }
 
@@ -69,7 +74,12 @@ returns-in_err-judge-clause-gate g c =
     let grows : StripeGrows w s c.judge.new.stripe.stripe = subst (λ (x : Stripe). StripeGrows w x c.judge.new.stripe.stripe) (ap (λ (x : StripeSide). x.stripe) c.learn.ensures.stripe) left.stripe in
     record {
       holds = search rules;
-      serves = (gate.0, left.served, begun_sees g.N.Named.config me.others.seen.now.sight c.judge.new.seen.sight me.others.who me.others.moment sees gate.2);
+      serves = (
+        gate.0,
+        left.served,
+        begun_sees g.N.Named.config me.others.seen.now.sight c.judge.new.seen.sight me.others.who me.others.moment sees gate.2,
+        gate.3 ∙ sym c.judge.ensures.still.number_is,
+      );
       kept = λ first begun kept. (
         grew_on w _ _ _ kept.0 grows,
         λ of.
@@ -79,6 +89,7 @@ returns-in_err-judge-clause-gate g c =
                   (same_after look.class.now q g.N.Named.config.stripes w s me.others.answers.now.items c.reserve.new.self.items c.judge.new.look.class.now c.in_err-judge.ensures.err c.reserve.ensures.items),
             ),
         searches_failed look.ask.who look.ask.moment _ _ _ _ _ _ kept.2 sees (ap (λ (v : ClassView). v.history) c.in_err-judge.ensures.err),
+        still_both (IsOfWalk g.N.Named.config look.class.now.number) look.ask.who.turn first.others.caller.now me.others.caller.now c.judge.new.caller kept.3 c.judge.ensures.still,
       );
     }
 
@@ -100,7 +111,12 @@ returns-clause-gate g c =
     let answered = c.push_reserved.ensures.items ∙ ap (λ (xs : List Answer). xs ++ answer_by c.args.stripe c.judge.new.look.judged ∷ []) c.reserve.ensures.items in
     record {
       holds = search rules;
-      serves = (gate.0, left.served, begun_sees g.N.Named.config me.others.seen.now.sight c.judge.new.seen.sight me.others.who me.others.moment sees gate.2);
+      serves = (
+        gate.0,
+        left.served,
+        begun_sees g.N.Named.config me.others.seen.now.sight c.judge.new.seen.sight me.others.who me.others.moment sees gate.2,
+        gate.3 ∙ sym c.judge.ensures.still.number_is,
+      );
       kept = λ first begun kept. (
         grew_on w _ _ _ kept.0 grows,
         λ of.
@@ -111,5 +127,6 @@ returns-clause-gate g c =
                   c.judge.new.look.class.now.history c.judge.new.look.judged known answered (ap (λ (v : ClassView). v.history) made.class)),
             ),
         searches_judged q _ _ _ _ look.class.now c.judge.new.look.class.now c.judge.new.look.judged kept.2 sees made.class,
+        still_both (IsOfWalk g.N.Named.config look.class.now.number) look.ask.who.turn first.others.caller.now me.others.caller.now c.judge.new.caller kept.3 c.judge.ensures.still,
       );
     }

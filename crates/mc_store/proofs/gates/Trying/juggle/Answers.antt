@@ -1,32 +1,68 @@
-use Rattle.std.proofs.Common.{List, refl}
+use Rattle.std.proofs.Common.{List, drop, length, refl, sym, ap, ◌∙◌, subst}
 use Rattle.mc_item.specs.declared.counts.Moves.{Moves}
 use Rattle.mc_pull.specs.{Juggle.IsJuggle, Rounds.rounds}
 use Rattle.mc_pull.specs.declared.looking.Answer.{Answer}
-use Rattle.mc_store.proofs.{GateLemmas.ok_more, GateLemmas.served_room, GateLemmas.served_survey, OwnEventLemmas.walks_none, OwnEventLemmas.walks_survey}
+use Rattle.mc_store.proofs.{GateLemmas.ok_more, GateLemmas.served_asked, GateLemmas.served_room, GateLemmas.served_survey, GateLemmas.still_caught_up, OwnEventLemmas.walks_none, OwnEventLemmas.walks_survey}
+use Rattle.mc_item.specs.declared.item.Who.{Who}
+use Rattle.mc_board.specs.{Accounts.AreBy, Views.OwnerView}
+use Rattle.mc_segment.specs.ClassState.{ClassView}
+use Rattle.mc_store.specs.{Accounts.IsOfWalk, Sides.class_told}
+use Rattle.mc_store.proofs.AccountLemmas.{still_none}
+use Rattle.mc_store.proofs.OwnCallLemmas.{served_told}
 use Rattle.mc_store.proofs.gates.Trying.juggle.Goals as goal
 
-pub juggle-requires : goal.juggle-requires
-juggle-requires g c =
+pub juggle-moves-requires : goal.juggle-moves-requires
+juggle-moves-requires g c =
     let may = c.requires.gate in
+    let table = g.N.Named.board.table in
+    let me = c.args.self.now in
+    let served = served_asked table g.N.Named.config c.args.context me.caller.now me.owner.now me.seen.now c.args.class.now me.who me.moment may in
     record {
       gate = record {
-        served = record { class = may.class; serves = (may.names, may.served, may.begun) };
-        surveys = λ first begun gate history survey by at kept. (kept.0, kept.1, walks_survey c.args.context.turn.who c.args.context.turn.moment _ _ _ _ survey by at kept.2);
+        served = record { class = may.class; serves = (may.names, served, may.walks.begun, may.walks.number) };
+        surveys = λ first begun gate history survey by at kept. (kept.0, kept.1, walks_survey c.args.context.turn.who c.args.context.turn.moment _ _ _ _ survey by at kept.2, kept.3);
         outlasts = record {
-          survey = λ gate config v who moment room s. (s.0, served_survey g.N.Named.board.table g.N.Named.config gate.owner.now gate.seen.now v who moment room s.1, s.2);
-          room = λ gate config v room s. (s.0, served_room g.N.Named.board.table g.N.Named.config gate.owner.now gate.seen.now v room s.1, s.2);
+          survey = λ gate config v who moment room s. (s.0, served_survey table g.N.Named.config who gate.owner.now gate.seen.now v moment room s.1, s.2, s.3);
+          room = λ gate config v who room s. (s.0, served_room table g.N.Named.config who gate.owner.now gate.seen.now v room s.1, s.2, s.3);
         };
       };
     }
 
 pub returns-clause-juggle : goal.returns-clause-juggle
 returns-clause-juggle g c =
-    ok_more c.juggle.result _ (λ (moves : Moves). (xs : List Answer) × IsJuggle (rounds c.args.class.now c.args.context.turn.who c.args.context.turn.moment c.args.context.config.now) c.args.class.now.history xs
-    c.juggle.new.class.history moves)
-    (λ moves made. (made.0, made.2)) c.juggle.ensures.juggle
+    ok_more c.juggle-moves.result _ (λ (moves : Moves). (xs : List Answer) × IsJuggle (rounds c.args.class.now c.args.context.turn.who c.args.context.turn.moment c.args.context.config.now) c.args.class.now.history xs
+    c.juggle-moves.new.class.history moves)
+    (λ moves made. (made.0, made.2)) c.juggle-moves.ensures.juggle
+
+pub catch_up_class-requires-clause-by : goal.catch_up_class-requires-clause-by
+catch_up_class-requires-clause-by g c =
+    let made = c.juggle-moves.ensures in
+    let none = walks_none c.args.context.turn.who c.args.context.turn.moment c.args.self.now.seen.now.sight c.args.class.now.history in
+    let still = still_none (IsOfWalk g.N.Named.config c.args.class.now.number) c.args.context.turn.who.turn c.args.self.now.caller.now in
+    let kept = made.gate.kept c.args.self.now c.args.class.now.history (refl, refl, none, still) in
+    subst (λ (who : Who). AreBy who (drop (length c.juggle-moves.new.gate.owner.now.history) (class_told c.juggle-moves.new.class.history))) (c.requires.gate.asks ∙ sym kept.0) made.gate.serves.1.by
 
 pub returns-clause-left : goal.returns-clause-left
 returns-clause-left g c =
-    let made = c.juggle.ensures in
+    let made = c.juggle-moves.ensures in
     let none = walks_none c.args.context.turn.who c.args.context.turn.moment c.args.self.now.seen.now.sight c.args.class.now.history in
-    record { grows = made.gains.grows; served = made.gate.serves.1; walked = (made.gate.kept c.args.self.now c.args.class.now.history (refl, refl, none)).2 }
+    let still = still_none (IsOfWalk g.N.Named.config c.args.class.now.number) c.args.context.turn.who.turn c.args.self.now.caller.now in
+    record {
+      grows = made.gains.grows;
+      served = served_told g.N.Named.board.table g.N.Named.config c.args.context.turn.who _ _ c.juggle-moves.new.gate.seen.now c.juggle-moves.new.class c.catch_up_class.ensures.told made.gate.serves.1;
+      told = ap (λ (o : OwnerView). o.history) c.catch_up_class.ensures.told;
+      walked = (made.gate.kept c.args.self.now c.args.class.now.history (refl, refl, none, still)).2;
+    }
+
+pub returns-clause-still : goal.returns-clause-still
+returns-clause-still g c =
+    let config = g.N.Named.config in
+    let old = c.args.class.now in
+    let caller = c.args.self.now.caller.now in
+    let who = c.args.context.turn.who in
+    let made = c.juggle-moves.ensures in
+    let new = c.juggle-moves.new in
+    let none = walks_none who c.args.context.turn.moment c.args.self.now.seen.now.sight old.history in
+    let kept = made.gate.kept c.args.self.now old.history (refl, refl, none, still_none (IsOfWalk config old.number) who.turn caller) in
+    still_caught_up g.N.Named.board.table config who new.gate.who new.gate.owner.now new.gate.seen.now old new.class caller new.gate.caller.now _ (length new.gate.owner.now.history)
+    (length new.class.history) kept.3 made.gate.serves.1 (ap (λ (v : ClassView). v.number) made.gains.grows.same) (kept.0 ∙ sym c.requires.gate.asks) c.catch_up_class.ensures.entered

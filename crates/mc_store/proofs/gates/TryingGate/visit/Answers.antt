@@ -1,10 +1,11 @@
 use Rattle.std.proofs.Common.{rules, ◌≡◌, ◌∙◌, ◌++◌, ◌∷◌, [], ℕ, List, None, ap, subst, sym}
-use Rattle.mc_item.specs.declared.{config.Config.Config, item.StripeNo.StripeNo}
+use Rattle.mc_item.specs.declared.{config.Config.Config, item.StripeNo.StripeNo, item.Who.Who}
 use Rattle.mc_pull.specs.{Looks.IsJudgedIf, Looks.answer_by, Question.question_of}
 use Rattle.mc_pull.specs.declared.looking.Answer.{Answer}
 use Rattle.mc_board.specs.{Histories.Grows, Views.SeenView}
 use Rattle.mc_segment.specs.ClassState.{ClassView}
-use Rattle.mc_store.specs.{Serving.IsServed, Sides.StripeSide}
+use Rattle.mc_store.specs.{Accounts.IsOfWalk, Serving.IsServed, Sides.StripeSide}
+use Rattle.mc_store.proofs.AccountLemmas.{still_both}
 use Rattle.mc_store.proofs.{CallerLemmas.asked_here, CallerLemmas.begun_sees, GateLemmas.passed_by, OwnEventLemmas.gains_judged, OwnEventLemmas.gains_none, OwnEventLemmas.walks_on}
 use Rattle.mc_store.proofs.gates.TryingGate.visit.Goals as goal
 
@@ -14,12 +15,14 @@ judge-requires-clause-look g c =
     let me = c.args.self.now in
     let look = c.args.look.now in
     let gate = c.requires.look.served.serves in
+    let own = c.is_foreign.ensures.own c.if-is_foreign.false in
     record {
       of = gate.0;
-      served = subst (λ (v : SeenView). IsServed g.N.Named.board.table config me.owner.now v look.class.now) (sym c.learn.ensures.same) gate.1;
+      number = ap (λ (w : Who). w.caller) own.0 ∙ gate.3;
+      served = subst (λ (v : SeenView). IsServed g.N.Named.board.table config look.ask.who me.owner.now v look.class.now) (sym c.learn.ensures.same) gate.1;
       may = c.requires.look.judge;
       begun = begun_sees config me.seen.now.sight c.learn.new.self.sight look.ask.who look.ask.moment c.learn.ensures.learnt
-          (asked_here config me.seen.now.sight me.who look.ask.who me.moment look.ask.moment (c.is_foreign.ensures.own c.if-is_foreign.false) gate.2);
+          (asked_here config me.seen.now.sight me.who look.ask.who me.moment look.ask.moment own gate.2);
       once = c.requires.once;
     }
 
@@ -48,11 +51,17 @@ returns-in_err-judge-clause-gate g c =
     let same = ap (λ (v : ClassView). v.history) c.in_err-judge.ensures.err in
     record {
       holds = search rules;
-      serves = (gate.0, left.served, begun_sees g.N.Named.config me.seen.now.sight c.judge.new.seen.sight me.who me.moment sees gate.2);
+      serves = (
+        gate.0,
+        left.served,
+        begun_sees g.N.Named.config me.seen.now.sight c.judge.new.seen.sight me.who me.moment sees gate.2,
+        gate.3 ∙ sym c.judge.ensures.still.number_is,
+      );
       kept = λ first begun kept. (
         kept.0,
         kept.1,
         walks_on look.ask.who look.ask.moment _ _ _ _ _ _ kept.2 sees (gains_none look.ask.who look.ask.moment look.class.now.history c.judge.new.look.class.now.history same),
+        still_both (IsOfWalk g.N.Named.config look.class.now.number) look.ask.who.turn first.caller.now me.caller.now c.judge.new.caller kept.3 c.judge.ensures.still,
       );
     }
 
@@ -66,8 +75,18 @@ returns-clause-gate g c =
     let gains = gains_judged look.class.now c.judge.new.look.class.now (question_of look.ask) c.judge.new.look.judged c.in_ok-judge.ensures.judged.class in
     record {
       holds = search rules;
-      serves = (gate.0, left.served, begun_sees g.N.Named.config me.seen.now.sight c.judge.new.seen.sight me.who me.moment sees gate.2);
-      kept = λ first begun kept. (kept.0, kept.1, walks_on look.ask.who look.ask.moment _ _ _ _ _ _ kept.2 sees gains);
+      serves = (
+        gate.0,
+        left.served,
+        begun_sees g.N.Named.config me.seen.now.sight c.judge.new.seen.sight me.who me.moment sees gate.2,
+        gate.3 ∙ sym c.judge.ensures.still.number_is,
+      );
+      kept = λ first begun kept. (
+        kept.0,
+        kept.1,
+        walks_on look.ask.who look.ask.moment _ _ _ _ _ _ kept.2 sees gains,
+        still_both (IsOfWalk g.N.Named.config look.class.now.number) look.ask.who.turn first.caller.now me.caller.now c.judge.new.caller kept.3 c.judge.ensures.still,
+      );
     }
 
 pub returns-in_default-clause-answer : goal.returns-in_default-clause-answer

@@ -1,6 +1,6 @@
-use Rattle.std.proofs.Common.{◌≡◌, ◌<◌, ◌+◌, ◌++◌, ◌∷◌, [], ap, ◌∙◌, inl, inr, length, refl, subst, sym}
+use Rattle.std.proofs.Common.{◌≡◌, ◌<◌, ◌+◌, ◌++◌, ◌∷◌, [], List, ap, ◌∙◌, inl, inr, length, refl, subst, sym}
 use Rattle.std.specs.Prelude.{OnErr, OnOk}
-use Rattle.mc_item.specs.declared.{item.Who.Who, item.ClassNo.ClassNo}
+use Rattle.mc_item.specs.declared.{call_event.CallEvent.CallEvent, item.Who.Who, item.ClassNo.ClassNo}
 use Rattle.mc_board.specs.{Histories.Grows, Histories.list_at, Views.SeenView}
 use Rattle.mc_board.specs.declared.rule.Sight.{Sight}
 use Rattle.mc_segment.specs.{ClassCalls.limited_event, ClassState.ClassView}
@@ -8,9 +8,10 @@ use Rattle.mc_evidence.specs.Seen.{stripes_seen}
 use Rattle.mc_pull.specs.Growth as classes
 use Rattle.mc_hits.specs.Rule.{AreBefore}
 use Rattle.mc_store.specs.{Callers.call_events, Callers.limits_of, Callers.turns_of, Calls.IsSeenGrowOf, Finals.IsBehindAt, Locked.IsHeldClass, Locked.caller_place, Made.HasNoneMadeBy, Made.IsLimitCalled}
-use Rattle.mc_store.specs.{Passes.ArePlaced, Passes.CallerView, Passes.PassView, Passes.next_who, Passes.pass_of, Sides.ClassSide, Sides.class_told}
-use Rattle.mc_store.proofs.CallerLemmas.{on_ok_always}
-use Rattle.mc_store.proofs.{GrownClassLemmas.class_grew, GrownClassLemmas.fails_full, LimitedClassLemmas.limit_seen, LimitedClassLemmas.limited_so, LimitedClassLemmas.unlimited_so, PlacedLemmas.placed_sees}
+use Rattle.mc_store.specs.{Accounts.StillCalls, Callers.placed_in, Locked.class_lock, Passes.CallerView, Passes.PassView, Passes.next_who, Passes.pass_of, Sides.ClassSide, Sides.class_told}
+use Rattle.mc_store.proofs.{AccountLemmas.enters_in, AccountLemmas.enters_same, CallerLemmas.on_ok_always}
+use Rattle.mc_store.proofs.{GrownClassLemmas.class_grew, GrownClassLemmas.fails_full, LimitedClassLemmas.limit_seen, LimitedClassLemmas.limited_so, LimitedClassLemmas.unlimited_so}
+use Rattle.mc_store.proofs.PlacedLemmas.{placed_same, placed_sees}
 use Rattle.mc_store.proofs.SeenStripeLemmas.{on_err_more}
 use Rattle.mc_store.proofs.store.Store.chunks.Given.{Over}
 use Rattle.mc_store.proofs.store.Store.chunks.Goals as goal
@@ -38,7 +39,7 @@ module _ (g : Over) (c : After-share g) where
   class_is = ap (λ (x : ClassSide). x.class) c.tell_class.ensures.class
 
   grew : classes.GainsEvents old_side.class new_side.class
-  grew = subst (λ (v : ClassView). classes.GainsEvents v new_side.class) class_is c.limit_under-limited.ensures.class
+  grew = subst (λ (v : ClassView). classes.GainsEvents v new_side.class) class_is c.limit_under-limited.ensures.same.0
 
   number : old_side.class.number ≡ c.args.class
   number = ap (λ (x : ClassSide). x.class.number) (old_is ∙ (c.own.view_is ∙ (c.in_ok-who.ensures.class ∙ c.deref_mut-own.ensures.value))) ∙ c.lock_class-guard.ensures
@@ -78,7 +79,7 @@ returns-clause-cut g c =
     let at = (goal.at.returns-clause-cut g c).After-share in
     let r = c.limit_under-limited.result in
     let stays = subst (λ (v : ClassView). OnErr r ((new_side g at).class.history ≡ v.history)) (class_is g at) c.limit_under-limited.ensures.stays in
-    let calls = ap (λ (k : CallerView). k.calls) c.tell_class.ensures.same ∙ ap (λ (p : PassView). p.calls) (took g at) in
+    let calls = c.limit_under-limited.ensures.same.1.calls_are ∙ (ap (λ (k : CallerView). k.calls) c.tell_class.ensures.same ∙ ap (λ (p : PassView). p.calls) (took g at)) in
     on_err_more r _ _ (λ gained. inr (calls, gained))
     (unlimited_so g.N.Named.config c.args.class c.args.pass.now.sight c.share.new.seen.sight (old_side g at).class (new_side g at).class.history (next_who c.args.pass.now)
     (seen_grow g at) (first g at) r stays)
@@ -93,14 +94,15 @@ pub returns-clause-turn : goal.returns-clause-turn
 returns-clause-turn g c = (
   refl,
   on_ok_always c.limit_under-limited.result
-      (ap (λ (k : CallerView). length (turns_of k.calls)) c.tell_class.ensures.same ∙ ap (λ (p : PassView). p.turn) (c.pass.view_is ∙ c.in_ok-who.ensures.took.turn)),
+      (ap (λ (calls : List CallEvent). length (turns_of calls)) (c.limit_under-limited.ensures.same.1.calls_are ∙ ap (λ (k : CallerView). k.calls) c.tell_class.ensures.same)
+      ∙ ap (λ (p : PassView). p.turn) (c.pass.view_is ∙ c.in_ok-who.ensures.took.turn)),
 )
 
-pub limit_under-limited-requires-clause-of : goal.limit_under-limited-requires-clause-of
-limit_under-limited-requires-clause-of g c =
+pub limit_under-limited-requires-clause-caller : goal.limit_under-limited-requires-clause-caller
+limit_under-limited-requires-clause-caller g c =
     let view = c.pass.view_is ∙ c.in_ok-who.ensures.took.turn in
     let number = ap (λ (w : Who). w.caller) c.in_ok-who.ensures.took.who ∙ sym (ap (λ (p : PassView). p.caller) view) in
-    subst (λ n. n < g.N.Named.config.callers) (sym number) c.tell_class.ensures.of
+    (number ∙ sym (ap (λ (k : CallerView). k.number) c.tell_class.ensures.same), subst (λ n. n < g.N.Named.config.callers) (sym number) c.tell_class.ensures.of)
 
 pub limit_under-limited-requires-clause-called : goal.limit_under-limited-requires-clause-called
 limit_under-limited-requires-clause-called g c =
@@ -117,17 +119,36 @@ limit_under-limited-requires-clause-called g c =
     (ap (λ (w : Who). w.caller) c.in_ok-who.ensures.took.who ∙ sym (ap (λ (p : PassView). p.caller) view)) (ap (λ (p : PassView). p.calls) view)
     (c.in_ok-who.ensures.turns ∙ sym (ap (λ (w : Who). w.turn) c.in_ok-who.ensures.took.who)))
 
+pub returns-clause-account : goal.returns-clause-account
+returns-clause-account g c =
+    let at = (goal.at.returns-clause-account g c).After-share in
+    let config = g.N.Named.config in
+    let old = c.args.pass.now in
+    let told = c.tell_class.new.self in
+    let is : c.tell_class.new.class.class.number ≡ c.args.class = ap (λ (v : ClassView). v.number) (class_is g at) ∙ number g at in
+    let made : told.made ≡ old.made = ap (λ (k : CallerView). k.made) c.tell_class.ensures.same ∙ ap (λ (p : PassView). p.made) (took g at) in
+    enters_in (λ class lock. lock ≡ class_lock config class) c.tell_class.new.class.class.number c.args.class c.in_ok-who.who.turn old.turn told.made old.made c.limit_under-limited.new.caller.made is
+    (ap (λ (w : Who). w.turn) c.in_ok-who.ensures.took.who) made c.limit_under-limited.ensures.same.1.enters
+
+pub returns-in_err-who-clause-account : goal.returns-in_err-who-clause-account
+returns-in_err-who-clause-account g c =
+    let old = c.args.pass.now in
+    enters_same (λ lock. lock ≡ class_lock g.N.Named.config c.args.class) old.turn old.made c.take_turn_in.new.self.made (ap (λ (p : PassView). p.made) c.in_err-who.ensures.err)
+
 pub invariant_of-pass : goal.invariant_of-pass
 invariant_of-pass g c =
     let config = g.N.Named.config in
     let i = c.pass.invariant in
-    let caller = c.tell_class.ensures.same in
+    let new = c.limit_under-limited.new.caller in
+    let still =
+    subst (λ (k : CallerView). StillCalls (λ lock. lock ≡ class_lock config c.tell_class.new.class.class.number) c.in_ok-who.who.turn k new) c.tell_class.ensures.same
+    c.limit_under-limited.ensures.same.1 in
     let seen : c.compare.new.seen ≡ c.pass.inside.seen = c.compare.ensures.same.1 in
     let grows : Grows c.pass.inside.seen.sight c.share.new.seen.sight = subst (λ (v : SeenView). Grows v.sight c.share.new.seen.sight) seen c.share.ensures.grows.seen in (
       c.share.ensures.board ∙ (ap (λ (v : SeenView). v.board) seen ∙ i.0),
-      subst (λ (k : CallerView). ArePlaced config k (stripes_seen (list_at c.share.new.seen.sight.seen))) (sym caller)
+      placed_same config c.pass.inside.caller new (stripes_seen (list_at c.share.new.seen.sight.seen)) still.number_is (ap placed_in still.calls_are)
           (placed_sees config c.pass.inside.caller c.pass.inside.seen.sight c.share.new.seen.sight grows i.1),
       i.2,
-      i.3 ∙ sym (ap (λ (k : CallerView). k.number) caller),
-      subst (λ (k : CallerView). AreBefore (length (turns_of k.calls)) c.pass.inside.hands.offers) (sym caller) i.4,
+      i.3 ∙ sym still.number_is,
+      subst (λ (calls : List CallEvent). AreBefore (length (turns_of calls)) c.pass.inside.hands.offers) (sym still.calls_are) i.4,
     )

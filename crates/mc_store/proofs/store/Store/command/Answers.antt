@@ -13,6 +13,9 @@ use Rattle.mc_store.proofs.{SeenStripeLemmas.IsShared, SeenStripeLemmas.asked_no
 use Rattle.mc_evidence.specs.Seen.{stripes_seen}
 use Rattle.mc_store.specs.{Callers.asked_for, Callers.turns_of, Calls.IsCutBy, Calls.IsRepliedBy, Passes.ArePlaced, Passes.next_call, Passes.pass_of}
 use Rattle.mc_store.proofs.{PlacedLemmas.placed_shared, OfferedHitLemmas.woken_class, SeenStripeLemmas.offered_by}
+use Rattle.mc_board.specs.declared.rule.Span.{Span}
+use Rattle.mc_store.specs.Accounts.{Enters}
+use Rattle.mc_store.proofs.{AccountLemmas.enters_none, EnteredLemmas.Suits}
 use Rattle.mc_store.proofs.store.Store.command.Given.{Over}
 use Rattle.mc_store.proofs.store.Store.command.Goals as goal
 use Rattle.mc_store.proofs.store.Store.command.Goals.{After-compare, After-share, in-None, in-Some}
@@ -99,6 +102,22 @@ returns-clause-grows g c =
 pub returns-clause-caller : goal.returns-clause-caller
 returns-clause-caller g c = (ends g (goal.at.returns-clause-caller g c).After-share).number ∙ ap (λ (p : PassView). p.caller) (c.pass.view_is ∙ c.in_ok-who.ensures.took.turn)
 
+pub returns-clause-account : goal.returns-clause-account
+returns-clause-account g c =
+    let at = (goal.at.returns-clause-account g c).After-share in
+    let old = c.args.pass.now in
+    let made = c.match-class_for.pass-inside.caller.made in
+    let suits = Suits g.N.Named.config c.args.command in
+    let was = ap (λ (p : PassView). p.made) (c.pass.view_is ∙ c.in_ok-who.ensures.took.turn) in
+    subst (λ (n : ℕ). Enters suits n old.made made) (ap (λ (w : Who). w.turn) c.in_ok-who.ensures.took.who)
+    (subst (λ (m : List Span). Enters suits c.in_ok-who.who.turn m made) was (ends g at).enters)
+
+pub returns-in_err-who-clause-account : goal.returns-in_err-who-clause-account
+returns-in_err-who-clause-account g c =
+    let old = c.args.pass.now in
+    subst (λ (p : PassView). Enters (Suits g.N.Named.config c.args.command) old.turn old.made p.made) (sym c.in_err-who.ensures.err)
+    (enters_none (Suits g.N.Named.config c.args.command) old.turn old.made)
+
 pub returns-clause-turn : goal.returns-clause-turn
 returns-clause-turn g c =
     let kept = turns_kept c.match-class_for.replied (ends g (goal.at.returns-clause-turn g c).After-share) in
@@ -172,7 +191,7 @@ invariant_of-pass g c =
     let seen = ap (λ (v : SeenView). v.sight) (ap (λ p. p.seen) (rest g at) ∙ c.compare.ensures.same.1) ∙ ap (λ (p : PassView). p.sight) took in
     let grows = subst (λ (x : Sight). Grows x c.share.new.seen.sight) seen c.share.ensures.grows.seen in
     let number : c.match-class_for.pass-inside.caller.number ≡ old.caller = ended.number ∙ ap (λ (p : PassView). p.caller) took in
-    let begun : ArePlaced config (record { number = old.caller; calls = old.calls ++ asked_for c.args.command c.args.moment ∷ [] }) (stripes_seen (list_at old.sight.seen)) =
+    let begun : ArePlaced config (record { number = old.caller; calls = old.calls ++ asked_for c.args.command c.args.moment ∷ []; made = old.made }) (stripes_seen (list_at old.sight.seen)) =
     subst (λ (p : PassView). ArePlaced config (caller_of p) (stripes_seen (list_at p.sight.seen))) took i.1 in
     let who : next_call (caller_of old) ≡ next_who old = ap (λ (n : ℕ). record { caller = old.caller; turn = n }) c.in_ok-who.ensures.turns in (
       c.share.ensures.board ∙ (ap (λ p. p.seen.board) (rest g at) ∙ (ap (λ (v : SeenView). v.board) c.compare.ensures.same.1 ∙ i.0)),

@@ -1,10 +1,10 @@
-use Rattle.std.proofs.Common.{length, ◌≡◌, ap, ◌∙◌, subst, sym}
+use Rattle.std.proofs.Common.{length, List, ◌≡◌, ap, ◌∙◌, subst, sym}
 use Rattle.std.specs.Prelude.{OnOk}
 use Rattle.mc_board.specs.Histories.{Grows, list_at}
 use Rattle.mc_board.specs.declared.rule.Sight.{Sight}
 use Rattle.mc_segment.specs.ClassState.{ClassView}
 use Rattle.mc_pull.specs.Growth as classes
-use Rattle.mc_item.specs.declared.item.ClassNo.{ClassNo}
+use Rattle.mc_item.specs.declared.{call_event.CallEvent.CallEvent, item.ClassNo.ClassNo}
 use Rattle.mc_store.specs.{Callers.crawling_of, Crawls.CountsOne, Crawls.HasCountedLink, Finals.IsBehindAt, Locked.HasBegunAs}
 use Rattle.mc_store.specs.{Locked.IsHeldClass, Passes.PassView, Passes.HasCalled, Passes.caller_of, Sides.ClassSide, Sides.class_told}
 use Rattle.mc_store.proofs.{CrawledLemmas.link_seen, CrawledLemmas.on_ok_more, GrownClassLemmas.class_grew, GrownClassLemmas.fails_full}
@@ -12,8 +12,8 @@ use Rattle.mc_store.proofs.{GrownClassLemmas.seen_sound}
 use Rattle.mc_board.specs.Views.{SeenView}
 use Rattle.mc_evidence.specs.Seen.{stripes_seen}
 use Rattle.mc_hits.specs.Rule.{AreBefore}
-use Rattle.mc_store.specs.{Callers.turns_of, Passes.ArePlaced, Passes.CallerView}
-use Rattle.mc_store.proofs.PlacedLemmas.{placed_sees}
+use Rattle.mc_store.specs.{Accounts.Enters, Accounts.IsOfWalk, Accounts.StillCalls, Callers.placed_in, Callers.turns_of, Passes.CallerView}
+use Rattle.mc_store.proofs.{AccountLemmas.still_pass, PlacedLemmas.placed_same, PlacedLemmas.placed_sees}
 use Rattle.mc_store.proofs.store.Store.crawl_link.Goals as goal
 
 pub returns-clause-full : goal.returns-clause-full
@@ -48,6 +48,13 @@ crawl_under-done-requires-clause-begun g c =
     let called = subst (λ (p : PassView). HasCalled (caller_of p) turn.who turn.moment call) (sym c.pass.view_is) c.requires.may.called in
     let begun = c.tell_class.ensures.begun turn.who turn.moment call called in
     subst (λ (n : ClassNo). HasBegunAs g.N.Named.config c.tell_class.new.class.sight c.args.crawling.turn.who c.args.crawling.turn.moment (crawling_of n c.args.crawling.turn.moment)) (sym number) begun
+
+pub crawl_under-done-requires-clause-caller : goal.crawl_under-done-requires-clause-caller
+crawl_under-done-requires-clause-caller g c =
+    let turn = c.args.crawling.turn in
+    let call = crawling_of c.args.crawling.class turn.moment in
+    let called = subst (λ (p : PassView). HasCalled (caller_of p) turn.who turn.moment call) (sym c.pass.view_is) c.requires.may.called in
+    called.number ∙ sym (ap (λ (k : CallerView). k.number) c.tell_class.ensures.same)
 
 pub returns-clause-sound : goal.returns-clause-sound
 returns-clause-sound g c =
@@ -92,17 +99,36 @@ returns-clause-counted g c =
     (link_seen config c.args.crawling.class c.args.pass.now.sight c.share.new.seen.sight c.args.crawling.turn c.args.link first last old.class new.class grew)
     (subst (λ (v : ClassView). OnOk c.crawl_under-done.result (P v)) cls c.crawl_under-done.ensures.counted)
 
+pub returns-clause-same : goal.returns-clause-same
+returns-clause-same g c =
+    let config = g.N.Named.config in
+    let same : c.compare.new.self ≡ c.own.inside.side = c.compare.ensures.same.0 in
+    let number : c.tell_class.new.class.class.number ≡ c.args.crawling.class =
+    ap (λ (x : ClassSide). x.class.number) c.tell_class.ensures.class ∙ (ap (λ (x : ClassSide). x.class.number) (same ∙ (c.own.view_is ∙ c.deref_mut-own.ensures.value)) ∙ c.lock_class-guard.ensures) in
+    let Suits = IsOfWalk config c.args.crawling.class in
+    let turn = c.args.crawling.turn.who.turn in
+    let old = c.pass.inside.caller in
+    let new = c.crawl_under-done.new.caller in
+    let still : StillCalls Suits turn old new =
+    subst (λ (k : CallerView). StillCalls Suits turn k new) c.tell_class.ensures.same
+    (subst (λ (n : ClassNo). StillCalls (IsOfWalk config n) turn c.tell_class.new.self new) number c.crawl_under-done.ensures.still) in (
+      still_pass Suits turn old new c.pass.inside.seen.sight c.share.new.seen.sight c.pass.inside.hands c.args.pass.now still c.pass.view_is,
+      subst (λ (p : PassView). Enters Suits turn p.made new.made) c.pass.view_is still.enters,
+    )
+
 pub invariant_of-pass : goal.invariant_of-pass
 invariant_of-pass g c =
     let config = g.N.Named.config in
     let i = c.pass.invariant in
-    let caller = c.tell_class.ensures.same in
+    let new = c.crawl_under-done.new.caller in
+    let still =
+    subst (λ (k : CallerView). StillCalls (IsOfWalk config c.tell_class.new.class.class.number) c.args.crawling.turn.who.turn k new) c.tell_class.ensures.same c.crawl_under-done.ensures.still in
     let seen : c.compare.new.seen ≡ c.pass.inside.seen = c.compare.ensures.same.1 in
     let grows : Grows c.pass.inside.seen.sight c.share.new.seen.sight = subst (λ (v : SeenView). Grows v.sight c.share.new.seen.sight) seen c.share.ensures.grows.seen in (
       c.share.ensures.board ∙ (ap (λ (v : SeenView). v.board) seen ∙ i.0),
-      subst (λ (k : CallerView). ArePlaced config k (stripes_seen (list_at c.share.new.seen.sight.seen))) (sym caller)
+      placed_same config c.pass.inside.caller new (stripes_seen (list_at c.share.new.seen.sight.seen)) still.number_is (ap placed_in still.calls_are)
           (placed_sees config c.pass.inside.caller c.pass.inside.seen.sight c.share.new.seen.sight grows i.1),
       i.2,
-      i.3 ∙ sym (ap (λ (k : CallerView). k.number) caller),
-      subst (λ (k : CallerView). AreBefore (length (turns_of k.calls)) c.pass.inside.hands.offers) (sym caller) i.4,
+      i.3 ∙ sym still.number_is,
+      subst (λ (calls : List CallEvent). AreBefore (length (turns_of calls)) c.pass.inside.hands.offers) (sym still.calls_are) i.4,
     )

@@ -1,6 +1,6 @@
-use Rattle.std.proofs.Common.{◌≡◌, ap, ◌∙◌, inl, length, subst, sym, refl}
+use Rattle.std.proofs.Common.{◌≡◌, ap, ◌∙◌, inl, length, List, subst, sym, refl}
 use Rattle.std.specs.Prelude.{IfOk}
-use Rattle.mc_item.specs.declared.{item.Who.Who, item.ClassNo.ClassNo}
+use Rattle.mc_item.specs.declared.{call_event.CallEvent.CallEvent, item.Who.Who, item.ClassNo.ClassNo}
 use Rattle.mc_board.specs.{Histories.Grows, Histories.list_at, Views.SeenView}
 use Rattle.mc_evidence.specs.Setting.{IsClass}
 use Rattle.mc_board.specs.declared.rule.Sight.{Sight}
@@ -9,8 +9,8 @@ use Rattle.mc_pull.specs.Growth as classes
 use Rattle.mc_hits.specs.{Rule.AreBefore, Views.HandsView}
 use Rattle.mc_store.specs.{Calls.IsUpkept, Finals.IsBehindAt, Locked.HasBegunAs, Locked.IsHeldClass, Sides.ClassSide, Sides.class_told, Callers.juggling_of}
 use Rattle.mc_evidence.specs.Seen.{stripes_seen}
-use Rattle.mc_store.proofs.{CallerLemmas.on_ok_always, PlacedLemmas.placed_sees}
-use Rattle.mc_store.specs.{Callers.turns_of, Passes.ArePlaced, Made.HasNoneMadeBy, Passes.next_who, Hits.Takes, Hits.queue_of, Locked.setting_of}
+use Rattle.mc_store.proofs.{AccountLemmas.enters_in, AccountLemmas.enters_same, CallerLemmas.on_ok_always, PlacedLemmas.placed_same, PlacedLemmas.placed_sees}
+use Rattle.mc_store.specs.{Accounts.IsOfWalk, Accounts.StillCalls, Callers.placed_in, Callers.turns_of, Made.HasNoneMadeBy, Passes.next_who, Hits.Takes, Hits.queue_of, Locked.setting_of}
 use Rattle.mc_store.specs.Passes.{CallerView, PassView, HasCalled, caller_of}
 use Rattle.mc_store.proofs.{GrownClassLemmas.fails_full, GrownClassLemmas.juggled_so, SeenStripeLemmas.called_now, TakenHitLemmas.takes_none}
 use Rattle.mc_store.proofs.store.Store.juggle.Goals as goal
@@ -71,7 +71,8 @@ pub returns-clause-turn : goal.returns-clause-turn
 returns-clause-turn g c = (
   refl,
   on_ok_always c.upkeep_under-moves.result
-      (ap (λ (k : CallerView). length (turns_of k.calls)) c.tell_class.ensures.same ∙ ap (λ (p : PassView). p.turn) (c.pass.view_is ∙ c.in_ok-who.ensures.took.turn)),
+      (ap (λ (calls : List CallEvent). length (turns_of calls)) (c.upkeep_under-moves.ensures.still.calls_are ∙ ap (λ (k : CallerView). k.calls) c.tell_class.ensures.same)
+      ∙ ap (λ (p : PassView). p.turn) (c.pass.view_is ∙ c.in_ok-who.ensures.took.turn)),
 )
 
 pub upkeep_under-moves-requires : goal.upkeep_under-moves-requires
@@ -91,6 +92,7 @@ upkeep_under-moves-requires g c =
         of = subst (IsClass (setting_of config)) (sym number) c.requires.class;
         begun = subst (λ (n : ClassNo). HasBegunAs config c.tell_class.new.class.sight c.in_ok-who.who c.args.moment (juggling_of n c.args.moment)) (sym number) begun;
         tables_are = c.pass.invariant.2;
+        number = ap (λ (w : Who). w.caller) c.in_ok-who.ensures.took.who ∙ (sym (ap (λ (p : PassView). p.caller) (c.pass.view_is ∙ turn)) ∙ sym (ap (λ (k : CallerView). k.number) c.tell_class.ensures.same));
       };
     }
 
@@ -108,19 +110,39 @@ pub returns-in_err-who-clause-taken : goal.returns-in_err-who-clause-taken
 returns-in_err-who-clause-taken g c =
     takes_none (queue_of c.args.class) c.args.pass.now.hands c.take_turn_in.new.self.hands (ap (λ (p : PassView). p.hands) c.in_err-who.ensures.err)
 
+pub returns-clause-account : goal.returns-clause-account
+returns-clause-account g c =
+    let config = g.N.Named.config in
+    let same : c.compare.new.self ≡ c.own.inside.side = c.compare.ensures.same.0 in
+    let number : c.tell_class.new.class.class.number ≡ c.args.class =
+    ap (λ (x : ClassSide). x.class.number) c.tell_class.ensures.class
+    ∙ (ap (λ (x : ClassSide). x.class.number) (same ∙ (c.own.view_is ∙ (c.in_ok-who.ensures.class ∙ c.deref_mut-own.ensures.value))) ∙ c.lock_class-guard.ensures) in
+    let old = c.args.pass.now in
+    let told = c.tell_class.new.self in
+    let made : told.made ≡ old.made = ap (λ (k : CallerView). k.made) c.tell_class.ensures.same ∙ ap (λ (p : PassView). p.made) (c.pass.view_is ∙ c.in_ok-who.ensures.took.turn) in
+    enters_in (IsOfWalk config) c.tell_class.new.class.class.number c.args.class c.in_ok-who.who.turn old.turn told.made old.made c.upkeep_under-moves.new.caller.made number
+    (ap (λ (w : Who). w.turn) c.in_ok-who.ensures.took.who) made c.upkeep_under-moves.ensures.still.enters
+
+pub returns-in_err-who-clause-account : goal.returns-in_err-who-clause-account
+returns-in_err-who-clause-account g c =
+    let old = c.args.pass.now in
+    enters_same (IsOfWalk g.N.Named.config c.args.class) old.turn old.made c.take_turn_in.new.self.made (ap (λ (p : PassView). p.made) c.in_err-who.ensures.err)
+
 pub invariant_of-pass : goal.invariant_of-pass
 invariant_of-pass g c =
     let config = g.N.Named.config in
     let i = c.pass.invariant in
     let same = c.upkeep_under-moves.ensures.same in
-    let caller = c.tell_class.ensures.same in
+    let new = c.upkeep_under-moves.new.caller in
+    let still =
+    subst (λ (k : CallerView). StillCalls (IsOfWalk config c.tell_class.new.class.class.number) c.in_ok-who.who.turn k new) c.tell_class.ensures.same c.upkeep_under-moves.ensures.still in
     let seen : c.compare.new.seen ≡ c.pass.inside.seen = c.compare.ensures.same.1 in
     let grows : Grows c.pass.inside.seen.sight c.share.new.seen.sight = subst (λ (v : SeenView). Grows v.sight c.share.new.seen.sight) seen c.share.ensures.grows.seen in (
       c.share.ensures.board ∙ (ap (λ (v : SeenView). v.board) seen ∙ i.0),
-      subst (λ (k : CallerView). ArePlaced config k (stripes_seen (list_at c.share.new.seen.sight.seen))) (sym caller)
+      placed_same config c.pass.inside.caller new (stripes_seen (list_at c.share.new.seen.sight.seen)) still.number_is (ap placed_in still.calls_are)
           (placed_sees config c.pass.inside.caller c.pass.inside.seen.sight c.share.new.seen.sight grows i.1),
       ap (λ (h : HandsView). h.tables) same ∙ i.2,
-      ap (λ (h : HandsView). h.caller) same ∙ (i.3 ∙ sym (ap (λ (k : CallerView). k.number) caller)),
-      subst (λ (k : CallerView). AreBefore (length (turns_of k.calls)) c.upkeep_under-moves.new.hands.offers) (sym caller)
+      ap (λ (h : HandsView). h.caller) same ∙ (i.3 ∙ sym still.number_is),
+      subst (λ (calls : List CallEvent). AreBefore (length (turns_of calls)) c.upkeep_under-moves.new.hands.offers) (sym still.calls_are)
           (subst (λ (h : HandsView). AreBefore (length (turns_of c.pass.inside.caller.calls)) h.offers) (sym same) i.4),
     )

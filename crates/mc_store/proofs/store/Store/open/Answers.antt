@@ -13,7 +13,8 @@ open_stripe-stripe-requires-clause-owner g c =
     let long : c.into_iter-owner-iterator.result.rest.len ≡ length owners.items = gives.1 ∙ owners.ok.0 in
     let turn = YieldsList-turn (YieldsList-from_vec owners.items gives.0 long) c.loop-owner.yielded c.loop-owner.owner-iterator c.loop-owner.yielded_by
     c.next.result c.next.new.self c.in-Some.owner c.in-Some.is c.next.ensures.steps in
-    let own = owner_at g.N.Named.board.table owners.items (histories_for g.N.Named.config) c.next_place-place.result (length c.loop-owner.yielded) c.in-Some.owner c.requires.fit.owned turn place in
+    let own = owner_at g.N.Named.board.table owners.items (locks_for g.N.Named.config) (histories_for g.N.Named.config) c.next_place-place.result
+    (length c.loop-owner.yielded) c.in-Some.owner c.requires.fit.owned turn place in
     own.1
 
 pub open_class-class-requires-clause-owner : goal.open_class-class-requires-clause-owner
@@ -24,7 +25,8 @@ open_class-class-requires-clause-owner g c =
     let long : c.into_iter-owner-iterator.result.rest.len ≡ length owners.items = gives.1 ∙ owners.ok.0 in
     let turn = YieldsList-turn (YieldsList-from_vec owners.items gives.0 long) c.loop-owner.yielded c.loop-owner.owner-iterator c.loop-owner.yielded_by
     c.next.result c.next.new.self c.in-Some.owner c.in-Some.is c.next.ensures.steps in
-    let own = owner_at g.N.Named.board.table owners.items (histories_for g.N.Named.config) c.next_place-place.result (length c.loop-owner.yielded) c.in-Some.owner c.requires.fit.owned turn place in
+    let own = owner_at g.N.Named.board.table owners.items (locks_for g.N.Named.config) (histories_for g.N.Named.config) c.next_place-place.result
+    (length c.loop-owner.yielded) c.in-Some.owner c.requires.fit.owned turn place in
     own.1
 
 pub open_pass-requires-clause-owner : goal.open_pass-requires-clause-owner
@@ -35,7 +37,8 @@ open_pass-requires-clause-owner g c =
     let long : c.into_iter-owner-iterator.result.rest.len ≡ length owners.items = gives.1 ∙ owners.ok.0 in
     let turn = YieldsList-turn (YieldsList-from_vec owners.items gives.0 long) c.loop-owner.yielded c.loop-owner.owner-iterator c.loop-owner.yielded_by
     c.next.result c.next.new.self c.in-Some.owner c.in-Some.is c.next.ensures.steps in
-    let own = owner_at g.N.Named.board.table owners.items (histories_for g.N.Named.config) c.next_place-place.result (length c.loop-owner.yielded) c.in-Some.owner c.requires.fit.owned turn place in
+    let own = owner_at g.N.Named.board.table owners.items (locks_for g.N.Named.config) (histories_for g.N.Named.config) c.next_place-place.result
+    (length c.loop-owner.yielded) c.in-Some.owner c.requires.fit.owned turn place in
     own.1
 
 pub remove-own-requires : goal.remove-own-requires
@@ -46,7 +49,8 @@ remove-own-requires g c =
     let long : c.into_iter-owner-iterator.result.rest.len ≡ length owners.items = gives.1 ∙ owners.ok.0 in
     let turn = YieldsList-turn (YieldsList-from_vec owners.items gives.0 long) c.loop-owner.yielded c.loop-owner.owner-iterator c.loop-owner.yielded_by
     c.next.result c.next.new.self c.in-Some.owner c.in-Some.is c.next.ensures.steps in
-    let own = owner_at g.N.Named.board.table owners.items (histories_for g.N.Named.config) c.next_place-place.result (length c.loop-owner.yielded) c.in-Some.owner c.requires.fit.owned turn place in
+    let own = owner_at g.N.Named.board.table owners.items (locks_for g.N.Named.config) (histories_for g.N.Named.config) c.next_place-place.result
+    (length c.loop-owner.yielded) c.in-Some.owner c.requires.fit.owned turn place in
     let i = c.loop-owner.invariant in
     let tables = tables_of g.N.Named.queues in
     let k = length c.loop-owner.passes.items in
@@ -64,7 +68,8 @@ open_pass-requires-clause-hands g c =
     let long : c.into_iter-owner-iterator.result.rest.len ≡ length owners.items = gives.1 ∙ owners.ok.0 in
     let turn = YieldsList-turn (YieldsList-from_vec owners.items gives.0 long) c.loop-owner.yielded c.loop-owner.owner-iterator c.loop-owner.yielded_by
     c.next.result c.next.new.self c.in-Some.owner c.in-Some.is c.next.ensures.steps in
-    let own = owner_at g.N.Named.board.table owners.items (histories_for g.N.Named.config) c.next_place-place.result (length c.loop-owner.yielded) c.in-Some.owner c.requires.fit.owned turn place in
+    let own = owner_at g.N.Named.board.table owners.items (locks_for g.N.Named.config) (histories_for g.N.Named.config) c.next_place-place.result
+    (length c.loop-owner.yielded) c.in-Some.owner c.requires.fit.owned turn place in
     let i = c.loop-owner.invariant in
     let tables = tables_of g.N.Named.queues in
     let k = length c.loop-owner.passes.items in
