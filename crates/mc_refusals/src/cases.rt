@@ -14,7 +14,8 @@ use crate::stores::Called;
 use crate::texts::Text;
 use crate::values::Plain;
 use Call::{
-    Make, OpenBoard, OpenStore, OpenTokens, Read, RunOne, Shared, Split, Try, TryTwo, World, Write,
+    Make, OpenBoard, OpenStore, OpenTokens, Read, RunOne, RunTwo, Shared, Split, Try, TryTwo,
+    World, Write,
 };
 use mc_item::Verb::{Append, Prepend, Set};
 
@@ -42,6 +43,8 @@ pub(crate) enum Call {
     Shared(&'static [Called], Called),
     /// A script is run over calls that are made up.
     RunOne,
+    /// Two scripts are run at once, with upkeep.
+    RunTwo,
 }
 
 // Commands at 1000. The item of the second set is dead at 1001.
@@ -126,7 +129,7 @@ pub(crate) fn cases() -> &'static [(&'static str, Call)] {
     CASES.as_slice()
 }
 
-static CASES: [(&str, Call); 63] = [
+static CASES: [(&str, Call); 64] = [
     ("key", Make(Plain::MakeKey)),
     ("copy_of_a_key", Make(Plain::CopyKey)),
     ("copy_of_a_command", Make(Plain::CopyCommand)),
@@ -193,4 +196,5 @@ static CASES: [(&str, Call); 63] = [
     ("store_juggle", Shared(FULL_SHARED, Called::Juggle)),
     ("store_crawl", Shared(DYING_SHARED, Called::Crawl)),
     ("run_script", RunOne),
+    ("run_scripts", RunTwo),
 ];

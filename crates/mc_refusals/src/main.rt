@@ -28,6 +28,7 @@ mod sums;
 mod texts;
 mod trying;
 mod two_classes;
+mod two_scripts;
 mod values;
 mod walking;
 mod worlds;
@@ -38,6 +39,7 @@ use marks::Marks;
 use std::io;
 use std::process::ExitCode;
 use std::sync::Wait;
+use std::thread::Threads;
 
 fn outcome_by(end: End) -> Outcome {
     match end {
@@ -47,7 +49,7 @@ fn outcome_by(end: End) -> Outcome {
     }
 }
 
-fn outcome_of(rt: &HostRuntime, wait: &impl Wait, call: Call) -> Option<Outcome> {
+fn outcome_of<R: Threads + Wait + Sync>(rt: &HostRuntime, wait: &R, call: Call) -> Option<Outcome> {
     let alloc = rt.alloc();
     let marks = Marks { alloc, on: true };
     match call {
@@ -63,11 +65,17 @@ fn outcome_of(rt: &HostRuntime, wait: &impl Wait, call: Call) -> Option<Outcome>
         Call::OpenStore => Some(outcome_by(stores::open(rt, marks))),
         Call::Shared(before, call) => stores::outcome_of(rt, wait, before, call),
         Call::RunOne => one_script::outcome_of(wait, marks),
+        Call::RunTwo => two_scripts::outcome_of(rt, wait, marks),
     }
 }
 
 // Makes a case's call, and prints what came of it.
-fn show(rt: &HostRuntime, wait: &impl Wait, name: &str, call: Call) -> io::Result<()> {
+fn show<R: Threads + Wait + Sync>(
+    rt: &HostRuntime,
+    wait: &R,
+    name: &str,
+    call: Call,
+) -> io::Result<()> {
     match outcome_of(rt, wait, call) {
         Some(Outcome::Made) => println!(rt; "{name}: made"),
         Some(Outcome::Same) => println!(rt; "{name}: refused, as before"),
@@ -79,7 +87,11 @@ fn show(rt: &HostRuntime, wait: &impl Wait, name: &str, call: Call) -> io::Resul
 }
 
 // Shows the case of this name, or all. It returns whether there is one.
-fn show_named(rt: &HostRuntime, wait: &impl Wait, word: Option<&str>) -> io::Result<bool> {
+fn show_named<R: Threads + Wait + Sync>(
+    rt: &HostRuntime,
+    wait: &R,
+    word: Option<&str>,
+) -> io::Result<bool> {
     let mut found = false;
     for (name, call) in cases() {
         if word.is_none() || word == Some(*name) {
@@ -90,7 +102,7 @@ fn show_named(rt: &HostRuntime, wait: &impl Wait, word: Option<&str>) -> io::Res
     Ok(found)
 }
 
-fn run(rt: &HostRuntime, wait: &impl Wait) -> io::Result<u8> {
+fn run<R: Threads + Wait + Sync>(rt: &HostRuntime, wait: &R) -> io::Result<u8> {
     let mut words = std::env::args(rt)?;
     words.next();
     let Some(word) = words.next() else {

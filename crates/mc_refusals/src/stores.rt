@@ -47,8 +47,8 @@ struct Left {
     answered: usize,
 }
 
-// How many commands a stripe has answered.
-fn answered_in(stripe: &StripeState) -> usize {
+/// Returns how many commands a stripe has answered.
+pub(crate) fn answered_in(stripe: &StripeState) -> usize {
     let mut many = 0usize;
     for place in 0..stripe.history().len() {
         if let Some(StripeEvent::Did(_)) = stripe.history().get(place) {
