@@ -3,13 +3,13 @@ use Rattle.std.proofs.Common.{◌≡◌, ◌⊎◌, ◌<◌, ◌≤◌, ℕ, zer
 use Rattle.std.specs.Prelude.{IfErr, IsErrOf, OnErr, OnOk, slice_get}
 use Rattle.std.proofs.lemmas.List.{length-map}
 use Rattle.mc_item.specs.declared.{call_event.CallEvent.CallEvent, command.Command.Command, config.Config.Config, fault.Fault.Fault, fault.Fault.TheVariants.HistoryFull}
-use Rattle.mc_item.specs.declared.{item.Who.Who}
+use Rattle.mc_item.specs.declared.item.ClassNo.{ClassNo}
 use Rattle.mc_item.specs.declared.call_event.CallEvent.TheVariants as calls
 use Rattle.mc_script.specs.Exchanges.{Asks, Begun, Crawls, Exchange, Juggles, Limits, ScriptCall}
 use Rattle.mc_store.specs.Callers.{answered_at, asked_for, moment_of, turns_of}
 use Rattle.mc_store.specs.{Calls.IsCutBy}
-use Rattle.mc_store.specs.{Passes.PassView, Passes.next_who, Serving.HasSeenShort}
-use Rattle.mc_store.proofs.FullLemmas.{full_short}
+use Rattle.mc_store.specs.{Passes.PassView, Passes.next_who, Full.LacksPlaces, Serving.HasSeenShort, Serving.IsShortFor}
+use Rattle.mc_store.proofs.{FullLemmas.full_short, ShortHistoryLemmas.short_lock, SyncedStepLemmas.any_short}
 use Rattle.mc_driver.specs.{Called.AreInTurn, Called.call_event_of, Called.turns_for, Caller.MayCall}
 use Rattle.mc_driver.proofs.NotedPlaceLemmas.{get_next}
 
@@ -133,17 +133,33 @@ may_again config old new (Err fault) may turn = tt
 -- ---- a full history
 
 -- how a command fails: before its turn, for the number of turns at most, or broken off by this fault
-abbrev pub Fails : Config → ℕ → (old new : PassView) → Who → Command → ℕ → Fault → Type 0
-Fails config number old new who command moment fault =
-    ((new ≡ old) × (fault ≡ HistoryFull → config.max_events ≤ old.turn)) ⊎ IsCutBy config number old.sight new.sight old.calls new.calls who command moment fault
+abbrev pub Fails : Config → ℕ → (old new : PassView) → Command → ℕ → Fault → Type 0
+Fails config number old new command moment fault =
+    ((new ≡ old) × (fault ≡ HistoryFull → config.max_events ≤ old.turn)) ⊎ IsCutBy config number old new command moment fault
 
 -- one that was broken off for a full history has seen a short one
-pub short_any : {T : Type 0} (config : Config) (number : ℕ) (old new : PassView) (who : Who) (command : Command) (moment : ℕ) (r : Result T Fault) → number < config.stripes
-    → IfErr r (Fails config number old new who command moment) → IsErrOf r HistoryFull → HasSeenShort config new.sight ⊎ (config.max_events ≤ old.turn)
-short_any config number old new who command moment r of fails is = ⊎_elim
+pub short_any : {T : Type 0} (config : Config) (number : ℕ) (old new : PassView) (command : Command) (moment : ℕ) (r : Result T Fault) → number < config.stripes
+    → IfErr r (Fails config number old new command moment) → IsErrOf r HistoryFull → HasSeenShort config new.sight ⊎ (config.max_events ≤ old.turn)
+short_any config number old new command moment r of fails is = ⊎_elim
     (λ early. inr (early.1 refl))
     (λ cut. inl (full_short config number cut.old cut.new new.sight command moment of (cut.grew.site.limit ∙ cut.grew.made_with.limit) cut.grew.now (cut.full refl)))
-    (subst (λ x. IfErr x (Fails config number old new who command moment)) is fails)
+    (subst (λ x. IfErr x (Fails config number old new command moment)) is fails)
+
+-- one that failed for a history that is short for a class, too
+pub short_class_any : {T : Type 0} (config : Config) (old new : PassView) (class : ClassNo) (r : Result T Fault)
+    → (IsErrOf r HistoryFull → IsShortFor config class new.sight ⊎ (config.max_events ≤ old.turn)) → IsErrOf r HistoryFull → HasSeenShort config new.sight ⊎ (config.max_events ≤ old.turn)
+short_class_any config old new class r full is = ⊎_elim (λ short. inl (short_lock config new.sight short)) (λ most. inr most) (full is)
+
+-- and one that failed for a class's history with no place left
+pub full_class_any : {T : Type 0} (config : Config) (old new : PassView) (class : ClassNo) (r : Result T Fault)
+    → (IsErrOf r HistoryFull → LacksPlaces config new.sight class 1 ⊎ (config.max_events ≤ old.turn)) → IsErrOf r HistoryFull → HasSeenShort config new.sight ⊎ (config.max_events ≤ old.turn)
+full_class_any config old new class r full is = ⊎_elim (λ lacks. inl (by lacks)) (λ most. inr most) (full is)
+  where
+    by : LacksPlaces config new.sight class 1 → HasSeenShort config new.sight
+    by lacks =
+        let short = lacks.short in
+        let two : LacksPlaces config new.sight class 2 = record { is = lacks.is; short = omega (arith, short) } in
+        short_lock config new.sight (any_short config new.sight two)
 
 -- a call that was refused for the number of turns finds as many calls in its caller's history
 pub full_calls : {T : Type 0} (config : Config) (old new : PassView) (call : CallEvent) (r : Result T Fault) → MayCall config old → turns_of (call ∷ []) ≡ call ∷ []
@@ -161,7 +177,7 @@ full_calls config old new call r may turn cut full is = ⊎_elim
         omega (arith, may.turns, all, length-append (turns_of old.calls) (call ∷ []), most)
 
 -- a command that was broken off adds at most its call
-pub cut_calls : {T : Type 0} (config : Config) (number : ℕ) (old new : PassView) (who : Who) (command : Command) (moment : ℕ) (r : Result T Fault)
-    → IfErr r (Fails config number old new who command moment) → OnErr r ((new ≡ old) ⊎ (new.calls ≡ old.calls ++ asked_for command moment ∷ []))
-cut_calls config number old new who command moment (Ok x) fails = tt
-cut_calls config number old new who command moment (Err fault) fails = ⊎_elim (λ early. inl early.0) (λ cut. inr cut.noted) fails
+pub cut_calls : {T : Type 0} (config : Config) (number : ℕ) (old new : PassView) (command : Command) (moment : ℕ) (r : Result T Fault)
+    → IfErr r (Fails config number old new command moment) → OnErr r ((new ≡ old) ⊎ (new.calls ≡ old.calls ++ asked_for command moment ∷ []))
+cut_calls config number old new command moment (Ok x) fails = tt
+cut_calls config number old new command moment (Err fault) fails = ⊎_elim (λ early. inl early.0) (λ cut. inr cut.noted) fails

@@ -3,7 +3,7 @@ use Rattle.std.proofs.Common.{◌≡◌, ◌<◌, ℕ, List, [], ◌∷◌, ◌+
 use mathlib.Core.List.{IsPrefix}
 use Rattle.std.proofs.Math.Nat.{mod-lt}
 use Rattle.mc_item.specs.{Command.key_of, Measure.fnv1a, Counts.no_counts, Stripe.cache_of}
-use Rattle.mc_item.specs.declared.{call_event.CallEvent.CallEvent, answer.Site.Site, class_event.ClassEvent.ClassEvent, command.Command.Command}
+use Rattle.mc_item.specs.declared.{answer.Site.Site, class_event.ClassEvent.ClassEvent, command.Command.Command}
 use Rattle.mc_item.specs.declared.{config.Config.Config, counts.Moves.Moves, event.Event.Event, item.ClassNo.ClassNo, item.Who.Who, reply.Reply.Reply}
 use Rattle.mc_item.specs.declared.{stripe_event.StripeEvent.StripeEvent, counts.Histogram.Histogram, item.Link.Link}
 use Rattle.mc_item.specs.declared.event.Event.TheVariants as board_events
@@ -40,37 +40,38 @@ led_up_there config number who command moment s made site led = record {
 }
 
 -- by a command that was replied to the pass came from what it had seen to what it has seen now
-pub replied_between : (config : Config) (before after : Sight) (calls calls_new : List CallEvent) (who : Who) (command : Command) (moment : ℕ) (reply : Reply) → 0 < config.stripes → Grows before after
-    → IsRepliedBy config (stripe_number config.stripes command) before after calls calls_new who command moment reply
-    → StandsBetween config (histories_seen config before) (histories_seen config after) (exchange who.caller who.turn (Asks command) moment (Replied reply))
-replied_between config before after calls calls_new who command moment reply some grows by =
+pub replied_between : (config : Config) (before after : PassView) (command : Command) (moment : ℕ) (reply : Reply) → 0 < config.stripes → Grows before.sight after.sight
+    → IsRepliedBy config (stripe_number config.stripes command) before after command moment reply
+    → StandsBetween config (histories_seen config before.sight) (histories_seen config after.sight) (exchange before.caller before.turn (Asks command) moment (Replied reply))
+replied_between config before after command moment reply some grows by =
     let answered = by.replied.answered in
+    let who = next_who before in
     let number = stripe_number config.stripes command in
-    let now : stripe_events (list_at after.seen number) ≡ by.new.history = ap stripe_events by.grew.now ∙ stripe_events-map by.new.history in
+    let now : stripe_events (list_at after.sight.seen number) ≡ by.new.history = ap stripe_events by.grew.now ∙ stripe_events-map by.new.history in
     let site : by.old.site ≡ site_in (setting_of config) number = sym (site_of_number config by.old by.grew.made_with) ∙ ap (site_in (setting_of config)) by.grew.number_is in
     record {
-      grew = seen_grow config before after grows;
+      grew = seen_grow config before.sight after.sight grows;
       placed = mod-lt (fnv1a (key_of command)) some;
       stands = record {
         older = by.old.history;
         made = answered.before;
         room = answered.room;
         behind = [];
-        past = stripe_begins (list_at before.seen number) by.old.history by.grew.seen;
+        past = stripe_begins (list_at before.sight.seen number) by.old.history by.grew.seen;
         first = by.first;
         led_up = led_up_there config number who command moment by.old answered.before site answered.led_up;
         split = now ∙ (answered.history_is
             ∙ ap (λ (r : Reply). (by.old.history ++ answered.before) ++ answered_event who command moment r answered.room ∷ []) by.replied.reply_is);
         earned = λ class is.
-            subst (λ (r : Reply). WasTried (site_in (setting_of config) number) class ((histories_seen config after).classes class) (answered_command who command moment r answered.room)) by.replied.reply_is
-            (subst (λ (t : Site). WasTried t class ((histories_seen config after).classes class) (answered_command who command moment answered.reply answered.room)) site (by.replied.earned.tried class));
+            subst (λ (r : Reply). WasTried (site_in (setting_of config) number) class ((histories_seen config after.sight).classes class) (answered_command who command moment r answered.room)) by.replied.reply_is
+            (subst (λ (t : Site). WasTried t class ((histories_seen config after.sight).classes class) (answered_command who command moment answered.reply answered.room)) site (by.replied.earned.tried class));
         last = λ class place is room.
             let at : by.old.site.stripe ≡ number = by.grew.number_is in
-            subst (λ (r : Reply). IsLastResort config (record { 0 = number }) class place ((histories_seen config after).classes class) (answered_command who command moment r answered.room)) by.replied.reply_is
-            (subst (λ (n : ℕ). IsLastResort config (record { 0 = n }) class place ((histories_seen config after).classes class)
+            subst (λ (r : Reply). IsLastResort config (record { 0 = number }) class place ((histories_seen config after.sight).classes class) (answered_command who command moment r answered.room)) by.replied.reply_is
+            (subst (λ (n : ℕ). IsLastResort config (record { 0 = n }) class place ((histories_seen config after.sight).classes class)
             (answered_command who command moment answered.reply answered.room)) at (by.replied.earned.last class place room));
       };
-      evidence = subst (λ (h : List StripeEvent). StripeKeeps (setting_of config) number h (histories_seen config after).classes) (sym now) by.grew.sound;
+      evidence = subst (λ (h : List StripeEvent). StripeKeeps (setting_of config) number h (histories_seen config after.sight).classes) (sym now) by.grew.sound;
     }
 
 -- and by juggling

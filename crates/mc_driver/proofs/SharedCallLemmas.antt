@@ -29,7 +29,7 @@ use Rattle.mc_driver.proofs.{OnlyCallsLemmas.is_same, StandingCallLemmas.stand_l
 
 -- where a reply was noted, and what stands there
 module _ (config : Config) (old new : PassView) (command : Command) (moment : ℕ) (reply : Reply)
-    (by : IsRepliedBy config (stripe_number config.stripes command) old.sight new.sight old.calls new.calls (record { caller = old.caller; turn = old.turn }) command moment reply) where
+    (by : IsRepliedBy config (stripe_number config.stripes command) old new command moment reply) where
   abbrev number : ℕ
   number = stripe_number config.stripes command
 
@@ -103,14 +103,14 @@ IsCut old new made = (new ≡ old) ⊎ (new.calls ≡ old.calls ++ made ∷ [])
 module _ (config : Config) (old new : PassView) (same : new.caller ≡ old.caller) (grows : Grows old.sight new.sight) where
   -- a reply is noted
   replied_adds : (command : Command) (moment : ℕ) (reply : Reply) → MayCall config old
-      → IsRepliedBy config (stripe_number config.stripes command) old.sight new.sight old.calls new.calls (record { caller = old.caller; turn = old.turn }) command moment reply
+      → IsRepliedBy config (stripe_number config.stripes command) old new command moment reply
       → AddsCalls (AreNoted config old) (AreNoted config new) (exchange old.caller old.turn (Asks command) moment (Replied reply) ∷ [])
   replied_adds command moment reply may by = record {
     at = λ calls noted.
         let call = exchange old.caller old.turn (Asks command) moment (Replied reply) in
         record {
           stand = stand_more config nothing_seen (histories_seen config old.sight) (histories_seen config new.sight) calls call noted.stand
-              (replied_between config old.sight new.sight old.calls new.calls (next_who old) command moment reply may.some grows by);
+              (replied_between config old new command moment reply may.some grows by);
           at = λ n below.
               subst (λ (k : ℕ). AreAt (stripe_events (list_at new.sight.seen n)) k (places_in n new.calls) (calls_at config.stripes n (calls ++ call ∷ []))) (sym same)
               (noted_at config old new command moment reply by calls noted grows n below);
@@ -182,7 +182,7 @@ module _ (config : Config) (old new : PassView) (same : new.caller ≡ old.calle
 
   -- as a call answers it: a reply is noted
   pub replied_ok : (command : Command) (moment : ℕ) (r : Result Reply Fault) → MayCall config old → OnOk r (new.turn ≡ old.turn + 1)
-      → IfOk r (IsRepliedBy config (stripe_number config.stripes command) old.sight new.sight old.calls new.calls (record { caller = old.caller; turn = old.turn }) command moment)
+      → IfOk r (IsRepliedBy config (stripe_number config.stripes command) old new command moment)
       → IfOk r (λ reply. MakesCalls (Asks command ∷ []) (Replied reply ∷ []) moment (view_of config old) (view_of config new))
   replied_ok command moment (Ok reply) may turn by = made_one _ _ moment tt turn (replied_adds command moment reply may by)
   replied_ok command moment (Err fault) may turn by = tt

@@ -1,30 +1,38 @@
 -- How a command under the lock of its stripe ends, by how its steps end.
-use Rattle.std.proofs.Common.{◌≡◌, ◌++◌, ◌∷◌, [], ℕ, List, Result, Ok, Err, inl, inr, ⊎_elim, length, append-nil, refl, ap, ◌∙◌, subst, sym}
-use Rattle.std.specs.Prelude.{Option, Some, IsErrAnd, IsErrOf}
-use Rattle.mc_item.specs.{Answer.row_of, Cache.Cache, Command.key_of, Stripe.IsAlive}
+use Rattle.std.proofs.Common.{◌≡◌, ◌++◌, ◌∷◌, [], ℕ, List, Result, Ok, Err, inl, inr, ⊎_elim, length, append-nil, arith, refl, ap, ◌∙◌, subst, sym}
+use Rattle.std.specs.Prelude.{◌≤◌, Option, Some, IsErrAnd, IsErrOf}
+use Rattle.mc_item.specs.{Answer.Row, Answer.row_of, Cache.Cache, Command.key_of, Stripe.IsAlive}
 use Rattle.mc_item.specs.declared.{answer.Need.Need, answer.Site.Site, call_event.CallEvent.CallEvent, command.Command.Command, config.Config.Config}
 use Rattle.mc_item.specs.declared.{fault.Fault.Fault, fault.Fault.TheVariants.HistoryFull, item.ClassNo.ClassNo, item.Link.Link, item.Who.Who}
 use Rattle.mc_item.specs.declared.{stripe_event.Did.Did, stripe_event.StripeEvent.StripeEvent}
 use Rattle.mc_item.specs.declared.answer.Need.TheVariants as needs
 use Rattle.mc_item.specs.declared.stripe_event.StripeEvent.TheVariants as events
+use Rattle.mc_board.specs.Histories.{Grows}
 use Rattle.mc_board.specs.declared.rule.Sight.{Sight}
-use Rattle.mc_stripe.specs.{Plan.dead_link, StripeCalls.KeepsSite, StripeState.Stripe, StripeState.cache_now, Trying.item_of, Trying.row_at, Wanting.Holds}
+use Rattle.mc_board.proofs.SeenLemmas.{Grows-trans}
+use Rattle.mc_stripe.specs.{Plan.dead_link, Plan.visible_row, StripeCalls.KeepsSite, StripeState.Stripe, StripeState.cache_now, Trying.item_of, Trying.row_at, Wanting.Holds}
 use Rattle.mc_stripe.specs.{Wanting.IsWanting, Wanting.classes_for}
 use Rattle.mc_stripe.specs.declared.{wanting.Want.Want, trying.Turn.Turn}
 use Rattle.mc_pull.specs.{Perform.answer_to, Perform.call, Question.IsStripeOf}
-use Rattle.mc_store.specs.{Callers.answered_at, Calls.IsRepliedAs, Commands.IsCut, Commands.IsSearch, Commands.burial, Earned.IsEarned, Earned.IsEarnedIn}
-use Rattle.mc_store.specs.{Held.Ends, Held.IsMadeIn, Held.IsWalked, Held.Suffice, Held.nothing, Passes.CallerView, Full.IsFullFor, Sides.StripeSide}
-use Rattle.mc_store.proofs.{CommandLemmas.cache_same, CommandLemmas.fresh_visible, CommandLemmas.led_same, EarnedRefusalLemmas.earned_told}
+use Rattle.mc_store.specs.{Accounts.Enters, Accounts.IsOfCommand, Accounts.Stretch, Callers.answered_at, Calls.IsRepliedAs, Commands.IsCut, Commands.IsSearch, Commands.burial, Earned.IsEarned, Earned.IsEarnedIn}
+use Rattle.mc_store.specs.{Held.Ends, Held.IsMadeIn, Held.IsWalked, Held.Suffice, Held.nothing, Passes.CallerView, Full.IsFullFor, Searches.IsSearchFor, Sides.StripeSide, Sides.stripe_sight}
+use Rattle.mc_store.proofs.{CommandLemmas.buried_row, CommandLemmas.cache_same, CommandLemmas.fresh_visible, CommandLemmas.led_same, CommandLemmas.row_same, EarnedRefusalLemmas.earned_told}
 use Rattle.mc_store.proofs.FullLemmas.{full_buried, full_same}
-use Rattle.mc_store.proofs.AccountLemmas.{enters_both}
-use Rattle.mc_store.proofs.EnteredLemmas.{Suits}
+use Rattle.mc_store.proofs.AccountLemmas.{enters_both, enters_more}
+use Rattle.mc_store.proofs.EnteredLemmas.{StillMakes, command_as, makes_then_tried, makes_tried, no_stretch, noted_still}
 use Rattle.mc_store.specs.Trying.{StillTries}
 use Rattle.mc_store.specs.declared.replied.Replied.{Replied}
 use Rattle.mc_store.proofs.UnderLockLemmas.{IsSearched, active_moves, cut_behind, cut_from, replied_behind, replied_from, site_both}
 
 module _ (config : Config) (command : Command) (turn : Turn) where
-  abbrev EndsBy : (s : Stripe) (own_new : StripeSide) (caller caller_new : CallerView) → Result Replied Fault → Type 0
-  EndsBy s own_new caller caller_new result = Ends config s own_new caller caller_new command turn result
+  abbrev EndsBy : (own own_new : StripeSide) (caller caller_new : CallerView) → Result Replied Fault → Type 0
+  EndsBy own own_new caller caller_new result = Ends config own own_new caller caller_new command turn result
+
+  abbrev Makes : Stretch → (own own_new : StripeSide) (caller caller_new : CallerView) → Type 0
+  Makes stretch own own_new caller caller_new = StillMakes config command turn stretch own own_new caller caller_new
+
+  abbrev Sought : (own end : StripeSide) → Stretch → Type 0
+  Sought own end stretch = IsSearchFor config (visible_row own.stripe command turn.moment).need turn.who turn.moment end.sight stretch
 
   -- a walk in the class that is needed is a search
   pub searched_walk : (s s_new : Stripe) (class : ClassNo) → IsAlive (item_of s command) turn.moment → (row_at s command turn.moment).need ≡ needs.Fresh class
@@ -34,35 +42,46 @@ module _ (config : Config) (command : Command) (turn : Turn) where
       (walk.walked, subst (λ (n : Need). IsSearch config turn.who turn.moment n walk.walked) (sym need) walk.each, walk.history_is)
 
   -- behind a search
-  module _ (s mid : Stripe) (alive : IsAlive (item_of s command) turn.moment) (searched : IsSearched config turn.who command turn.moment s mid) (site : KeepsSite s mid) where
+  module _ (own mid : StripeSide) (alive : IsAlive (item_of own.stripe command) turn.moment) (searched : IsSearched config turn.who command turn.moment own.stripe mid.stripe)
+      (site : KeepsSite own.stripe mid.stripe) where
     -- the command was made
-    pub ends_made : (end : StripeSide) (caller caller_new : CallerView) (reply : Replied) → IsStripeOf config s → KeepsSite mid end.stripe
-        → IsMadeIn config mid end caller caller_new command turn reply → EndsBy s end caller caller_new (Ok reply)
-    ends_made end caller caller_new reply made_with more made = record {
-      replied = replied_behind config turn.who command turn.moment s mid alive searched end.stripe end.sight made.room reply caller.calls caller_new.calls site made.made_is made.noted.calls_are
-          (earned_told config s.site end.sight turn.who command turn.moment (answer_to mid (call turn.who command turn.moment made.room)).reply made.room made_with.stripes
-          (subst (λ (t : Site). IsEarnedIn config t.stripe turn.who turn.moment (key_of command) end.sight made.room) site.site made.earned));
-      cut = tt;
-      unnoted = tt;
-      number = made.noted.number_is;
-      enters = made.noted.enters;
-      site = site_both s mid end.stripe site more;
-      full = λ is. absurd (ok_full reply is);
-    }
+    pub ends_made : (stretch : Stretch) (end : StripeSide) (caller caller_mid caller_new : CallerView) (reply : Replied) → IsStripeOf config own.stripe → KeepsSite mid.stripe end.stripe
+        → Makes stretch own mid caller caller_mid → Sought own end stretch → IsMadeIn config mid end caller_mid caller_new command turn reply → EndsBy own end caller caller_new (Ok reply)
+    ends_made stretch end caller caller_mid caller_new reply made_with more still sought made =
+        let s = own.stripe in
+        let last = mid.stripe in
+        let noted = makes_then_tried config command turn stretch own mid end site.site (noted_still last still) made.noted in
+        record {
+          replied = replied_behind config turn.who command turn.moment s last alive searched end.stripe end.sight made.room reply caller.calls caller_new.calls site made.made_is noted.calls_are
+              (earned_told config s.site end.sight turn.who command turn.moment (answer_to last (call turn.who command turn.moment made.room)).reply made.room made_with.stripes
+              (subst (λ (t : Site). IsEarnedIn config t.stripe turn.who turn.moment (key_of command) end.sight made.room) site.site made.earned));
+          cut = tt;
+          unnoted = tt;
+          number = noted.number_is;
+          sees = noted.sees;
+          stretch = stretch;
+          enters = noted.enters;
+          search = sought;
+          site = site_both s last end.stripe site more;
+          full = λ is. absurd (ok_full reply is);
+        }
       where
         ok_full : (r : Replied) → IsErrOf (Ok r) HistoryFull → ⊥
         ok_full r is = cc is
 
     -- it was broken off
-    pub ends_cut : (end : StripeSide) (caller caller_new : CallerView) (fault : Fault) → KeepsSite mid end.stripe → end.stripe.history ≡ mid.history
-        → StillTries config command turn caller caller_new → (fault ≡ HistoryFull → IsFullFor config s end.stripe end.sight command turn.moment) → EndsBy s end caller caller_new (Err fault)
-    ends_cut end caller caller_new fault more same still full = record {
+    pub ends_cut : (stretch : Stretch) (end : StripeSide) (caller caller_new : CallerView) (fault : Fault) → KeepsSite mid.stripe end.stripe → end.stripe.history ≡ mid.stripe.history
+        → Makes stretch own end caller caller_new → (fault ≡ HistoryFull → IsFullFor config own.stripe end.stripe end.sight command turn.moment) → EndsBy own end caller caller_new (Err fault)
+    ends_cut stretch end caller caller_new fault more same still full = record {
       replied = tt;
-      cut = cut_behind config turn.who command turn.moment s mid alive searched end.stripe same;
+      cut = cut_behind config turn.who command turn.moment own.stripe mid.stripe alive searched end.stripe same;
       unnoted = still.calls_are;
       number = still.number_is;
+      sees = still.sees;
+      stretch = stretch;
       enters = still.enters;
-      site = site_both s mid end.stripe site more;
+      search = tt;
+      site = site_both own.stripe mid.stripe end.stripe site more;
       full = λ is. full (err_fault fault HistoryFull is);
     }
       where
@@ -70,51 +89,55 @@ module _ (config : Config) (command : Command) (turn : Turn) where
         err_fault a b is = cc is
 
     -- with a fault that was handed on
-    pub ends_err : (end : StripeSide) (caller caller_new : CallerView) (r : Result Replied Fault) (fault : Fault) → IsErrAnd r (λ x. x ≡ fault)
-        → KeepsSite mid end.stripe → end.stripe.history ≡ mid.history → StillTries config command turn caller caller_new → (fault ≡ HistoryFull → IsFullFor config s end.stripe end.sight command turn.moment)
-        → EndsBy s end caller caller_new r
-    ends_err end caller caller_new (Ok reply) fault is more same still full = absurd is
-    ends_err end caller caller_new (Err e) fault is more same still full = ends_cut end caller caller_new e more same still (λ at. full (sym is ∙ at))
+    pub ends_err : (stretch : Stretch) (end : StripeSide) (caller caller_new : CallerView) (r : Result Replied Fault) (fault : Fault) → IsErrAnd r (λ x. x ≡ fault)
+        → KeepsSite mid.stripe end.stripe → end.stripe.history ≡ mid.stripe.history → Makes stretch own end caller caller_new
+        → (fault ≡ HistoryFull → IsFullFor config own.stripe end.stripe end.sight command turn.moment) → EndsBy own end caller caller_new r
+    ends_err stretch end caller caller_new (Ok reply) fault is more same still full = absurd is
+    ends_err stretch end caller caller_new (Err e) fault is more same still full = ends_cut stretch end caller caller_new e more same still (λ at. full (sym is ∙ at))
+
+  -- no search was made
+  pub no_search : (own end : StripeSide) → Sought own end no_stretch
+  no_search own end =
+      let none : 0 ≤ 0 = omega arith in inl none
 
   -- before anything of it happened
-  pub ends_early : (s : Stripe) (end : StripeSide) (caller caller_new : CallerView) (r : Result Replied Fault) (fault : Fault) → IsErrAnd r (λ x. x ≡ fault)
-      → KeepsSite s end.stripe → end.stripe.history ≡ s.history → StillTries config command turn caller caller_new → (fault ≡ HistoryFull → IsFullFor config s end.stripe end.sight command turn.moment)
-      → EndsBy s end caller caller_new r
-  ends_early s end caller caller_new (Ok reply) fault is site same still full = absurd is
-  ends_early s end caller caller_new (Err e) fault is site same still full = record {
-    replied = tt;
-    cut = record { before = []; led_up = inl refl; history_is = same ∙ sym (append-nil s.history) };
-    unnoted = still.calls_are;
-    number = still.number_is;
-    enters = still.enters;
-    site = site;
-    full = λ at. full (sym is ∙ err_same e at);
-  }
+  pub ends_early : (own end : StripeSide) (caller caller_new : CallerView) (r : Result Replied Fault) (fault : Fault) → IsErrAnd r (λ x. x ≡ fault)
+      → KeepsSite own.stripe end.stripe → end.stripe.history ≡ own.stripe.history → StillTries config turn own end caller caller_new
+      → (fault ≡ HistoryFull → IsFullFor config own.stripe end.stripe end.sight command turn.moment) → EndsBy own end caller caller_new r
+  ends_early own end caller caller_new (Ok reply) fault is site same still full = absurd is
+  ends_early own end caller caller_new (Err e) fault is site same still full =
+      let makes = makes_tried config command turn no_stretch own end still in
+      record {
+        replied = tt;
+        cut = record { before = []; led_up = inl refl; history_is = same ∙ sym (append-nil own.stripe.history) };
+        unnoted = makes.calls_are;
+        number = makes.number_is;
+        sees = makes.sees;
+        stretch = no_stretch;
+        enters = makes.enters;
+        search = tt;
+        site = site;
+        full = λ at. full (sym is ∙ err_same e at);
+      }
     where
       err_same : (e : Fault) → IsErrOf {T = Replied} (Err e) HistoryFull → e ≡ HistoryFull
       err_same e at = cc at
 
-  -- of a caller that had noted nothing
-  pub ends_still : (s : Stripe) (end : StripeSide) (caller mid caller_new : CallerView) (r : Result Replied Fault) → StillTries config command turn caller mid
-      → EndsBy s end mid caller_new r → EndsBy s end caller caller_new r
-  ends_still s end caller mid caller_new (Ok reply) still ends = record {
-    replied = subst (λ (calls : List CallEvent). IsRepliedAs config turn.who command turn.moment s end.stripe end.sight calls caller_new.calls reply) still.calls_are ends.replied;
-    cut = tt;
-    unnoted = tt;
-    number = ends.number ∙ still.number_is;
-    enters = enters_both (Suits config command) turn.who.turn caller.made mid.made caller_new.made still.enters ends.enters;
-    site = ends.site;
-    full = ends.full;
-  }
-  ends_still s end caller mid caller_new (Err fault) still ends = record {
-    replied = tt;
-    cut = ends.cut;
-    unnoted = ends.unnoted ∙ still.calls_are;
-    number = ends.number ∙ still.number_is;
-    enters = enters_both (Suits config command) turn.who.turn caller.made mid.made caller_new.made still.enters ends.enters;
-    site = ends.site;
-    full = ends.full;
-  }
+  -- behind steps without a search the account is what it gained by them, and then
+  entered_behind : (stretch : Stretch) (own mid end : StripeSide) (caller caller_mid caller_new : CallerView) → mid.stripe.site ≡ own.stripe.site
+      → visible_row mid.stripe command turn.moment ≡ visible_row own.stripe command turn.moment → StillTries config turn own mid caller caller_mid → Grows (stripe_sight mid) (stripe_sight end)
+      → Enters (IsOfCommand config mid.stripe command turn.moment stretch) turn.who.turn (stripe_sight end) caller_mid.made caller_new.made
+      → Enters (IsOfCommand config own.stripe command turn.moment stretch) turn.who.turn (stripe_sight end) caller.made caller_new.made
+  entered_behind stretch own mid end caller caller_mid caller_new site row still sees enters =
+      let Here = IsOfCommand config own.stripe command turn.moment stretch in
+      enters_both Here turn.who.turn caller.made caller_mid.made caller_new.made (makes_tried config command turn stretch own mid still).enters sees
+      (enters_more (IsOfCommand config mid.stripe command turn.moment stretch) Here turn.who.turn caller_mid.made caller_new.made
+      (command_as config own.stripe mid.stripe command turn.moment stretch site row) enters)
+
+  -- and the search is for what is needed
+  sought_behind : (stretch : Stretch) (own mid end : StripeSide) → visible_row mid.stripe command turn.moment ≡ visible_row own.stripe command turn.moment
+      → Sought mid end stretch → Sought own end stretch
+  sought_behind stretch own mid end row sought = subst (λ (r : Row). IsSearchFor config r.need turn.who turn.moment end.sight stretch) row sought
 
   -- on a stripe of the same history
   module _ (s mid : Stripe) (site : KeepsSite s mid) (same : mid.history ≡ s.history) where
@@ -150,47 +173,75 @@ module _ (config : Config) (command : Command) (turn : Turn) where
       history_is = cut.history_is ∙ ap (λ (h : List StripeEvent). h ++ cut.before) same;
     }
 
-    pub ends_same : (end : StripeSide) (caller caller_new : CallerView) (r : Result Replied Fault) → EndsBy mid end caller caller_new r → EndsBy s end caller caller_new r
-    ends_same end caller caller_new (Ok reply) ends = record {
-      replied = replied_same end.stripe end.sight caller.calls caller_new.calls reply ends.replied;
-      cut = tt;
-      unnoted = tt;
-      number = ends.number;
-      enters = ends.enters;
-      site = site_both s mid end.stripe site ends.site;
-      full = λ is. full_same config s mid end.stripe end.sight command turn.moment site same (ends.full is);
-    }
-    ends_same end caller caller_new (Err fault) ends = record {
-      replied = tt;
-      cut = cut_same end.stripe ends.cut;
-      unnoted = ends.unnoted;
-      number = ends.number;
-      enters = ends.enters;
-      site = site_both s mid end.stripe site ends.site;
-      full = λ is. full_same config s mid end.stripe end.sight command turn.moment site same (ends.full is);
-    }
+  -- of a caller that had noted nothing
+  module _ (own mid : StripeSide) (site : KeepsSite own.stripe mid.stripe) (caller caller_mid : CallerView) (still : StillTries config turn own mid caller caller_mid) where
+    pub ends_same : mid.stripe.history ≡ own.stripe.history → (end : StripeSide) (caller_new : CallerView) (r : Result Replied Fault) → EndsBy mid end caller_mid caller_new r → EndsBy own end caller caller_new r
+    ends_same same end caller_new (Ok reply) ends =
+        let s = own.stripe in
+        let last = mid.stripe in
+        record {
+          replied = subst (λ (calls : List CallEvent). IsRepliedAs config turn.who command turn.moment s end.stripe end.sight calls caller_new.calls reply) still.calls_are
+              (replied_same s last site same end.stripe end.sight caller_mid.calls caller_new.calls reply ends.replied);
+          cut = tt;
+          unnoted = tt;
+          number = ends.number ∙ still.number_is;
+          sees = Grows-trans (stripe_sight own) (stripe_sight mid) (stripe_sight end) still.sees ends.sees;
+          stretch = ends.stretch;
+          enters = entered_behind ends.stretch own mid end caller caller_mid caller_new site.site (row_same command turn.moment s last site same) still ends.sees ends.enters;
+          search = sought_behind ends.stretch own mid end (row_same command turn.moment s last site same) ends.search;
+          site = site_both s last end.stripe site ends.site;
+          full = λ is. full_same config s last end.stripe end.sight command turn.moment site same (ends.full is);
+        }
+    ends_same same end caller_new (Err fault) ends =
+        let s = own.stripe in
+        let last = mid.stripe in
+        record {
+          replied = tt;
+          cut = cut_same s last site same end.stripe ends.cut;
+          unnoted = ends.unnoted ∙ still.calls_are;
+          number = ends.number ∙ still.number_is;
+          sees = Grows-trans (stripe_sight own) (stripe_sight mid) (stripe_sight end) still.sees ends.sees;
+          stretch = ends.stretch;
+          enters = entered_behind ends.stretch own mid end caller caller_mid caller_new site.site (row_same command turn.moment s last site same) still ends.sees ends.enters;
+          search = tt;
+          site = site_both s last end.stripe site ends.site;
+          full = λ is. full_same config s last end.stripe end.sight command turn.moment site same (ends.full is);
+        }
 
-  -- behind the burial of its key's dead item
-  module _ (s mid : Stripe) (site : KeepsSite s mid) (buried : mid.history ≡ s.history ++ burial turn.who (key_of command) turn.moment (dead_link ((cache_now s).items (key_of command)) turn.moment)) where
-    pub ends_buried : (end : StripeSide) (caller caller_new : CallerView) (r : Result Replied Fault) → EndsBy mid end caller caller_new r → EndsBy s end caller caller_new r
-    ends_buried end caller caller_new (Ok reply) ends = record {
-      replied = replied_from config turn.who command turn.moment s mid site buried end.stripe end.sight caller.calls caller_new.calls reply ends.replied;
-      cut = tt;
-      unnoted = tt;
-      number = ends.number;
-      enters = ends.enters;
-      site = site_both s mid end.stripe site ends.site;
-      full = λ is. full_buried config turn.who s mid end.stripe end.sight command turn.moment site buried (ends.full is);
-    }
-    ends_buried end caller caller_new (Err fault) ends = record {
-      replied = tt;
-      cut = cut_from config turn.who command turn.moment s mid site buried end.stripe ends.cut;
-      unnoted = ends.unnoted;
-      number = ends.number;
-      enters = ends.enters;
-      site = site_both s mid end.stripe site ends.site;
-      full = λ is. full_buried config turn.who s mid end.stripe end.sight command turn.moment site buried (ends.full is);
-    }
+    -- behind the burial of its key's dead item
+    pub ends_buried : mid.stripe.history ≡ own.stripe.history ++ burial turn.who (key_of command) turn.moment (dead_link ((cache_now own.stripe).items (key_of command)) turn.moment)
+        → (end : StripeSide) (caller_new : CallerView) (r : Result Replied Fault) → EndsBy mid end caller_mid caller_new r → EndsBy own end caller caller_new r
+    ends_buried buried end caller_new (Ok reply) ends =
+        let s = own.stripe in
+        let last = mid.stripe in
+        record {
+          replied = subst (λ (calls : List CallEvent). IsRepliedAs config turn.who command turn.moment s end.stripe end.sight calls caller_new.calls reply) still.calls_are
+              (replied_from config turn.who command turn.moment s last site buried end.stripe end.sight caller_mid.calls caller_new.calls reply ends.replied);
+          cut = tt;
+          unnoted = tt;
+          number = ends.number ∙ still.number_is;
+          sees = Grows-trans (stripe_sight own) (stripe_sight mid) (stripe_sight end) still.sees ends.sees;
+          stretch = ends.stretch;
+          enters = entered_behind ends.stretch own mid end caller caller_mid caller_new site.site (buried_row s last turn.who command turn.moment site buried) still ends.sees ends.enters;
+          search = sought_behind ends.stretch own mid end (buried_row s last turn.who command turn.moment site buried) ends.search;
+          site = site_both s last end.stripe site ends.site;
+          full = λ is. full_buried config turn.who s last end.stripe end.sight command turn.moment site buried (ends.full is);
+        }
+    ends_buried buried end caller_new (Err fault) ends =
+        let s = own.stripe in
+        let last = mid.stripe in
+        record {
+          replied = tt;
+          cut = cut_from config turn.who command turn.moment s last site buried end.stripe ends.cut;
+          unnoted = ends.unnoted ∙ still.calls_are;
+          number = ends.number ∙ still.number_is;
+          sees = Grows-trans (stripe_sight own) (stripe_sight mid) (stripe_sight end) still.sees ends.sees;
+          stretch = ends.stretch;
+          enters = entered_behind ends.stretch own mid end caller caller_mid caller_new site.site (buried_row s last turn.who command turn.moment site buried) still ends.sees ends.enters;
+          search = tt;
+          site = site_both s last end.stripe site ends.site;
+          full = λ is. full_buried config turn.who s last end.stripe end.sight command turn.moment site buried (ends.full is);
+        }
 
 -- a stripe of the same history needs the same classes
 module _ (s s_new : Stripe) (site : KeepsSite s s_new) (same : s_new.history ≡ s.history) (command : Command) (moment : ℕ) where

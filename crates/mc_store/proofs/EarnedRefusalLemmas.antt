@@ -1,22 +1,28 @@
 -- A refusal that was earned: when it is noted, and as more is seen.
-use Rattle.std.proofs.Common.{◌≡◌, ◌<◌, ◌⊎◌, ℕ, Bool, false, List, [], ◌∷◌, ◌++◌, inl, inr, refl, sym, ap, ◌∙◌, subst, append_assoc}
-use Rattle.std.specs.Prelude.{Option, Some, None, IfSome}
+use Rattle.std.proofs.Common.{◌≡◌, ◌<◌, ◌+◌, ◌⊎◌, ℕ, zero, suc, Bool, true, false, List, [], ◌∷◌, ◌++◌, inl, inr, length, length-append, refl, sym, ap, ◌∙◌, arith, subst, append-nil, append_assoc}
+use Rattle.std.specs.Prelude.{◌≤◌, Option, Some, None, IfSome}
 use mathlib.Core.List.{IsPrefix}
 use Rattle.mc_item.specs.{Command.key_of, Measure.stripe_of}
-use Rattle.mc_item.specs.declared.{answer.Site.Site, class_event.ClassEvent.ClassEvent, command.Command.Command, config.Config.Config, item.ClassNo.ClassNo}
+use Rattle.mc_item.specs.declared.{answer.Need.Need, answer.Site.Site, class_event.ClassEvent.ClassEvent, command.Command.Command, config.Config.Config, item.ClassNo.ClassNo}
 use Rattle.mc_item.specs.declared.{item.StripeNo.StripeNo, item.Who.Who, lists.Entry.Entry, lists.Seg.Seg, lists.Seg.TheVariants.Hot}
 use Rattle.mc_item.specs.declared.{lists.Seg.TheVariants.Cold, reply.Reply.Reply, reply.Room.Room, stripe_event.Did.Did}
+use Rattle.mc_item.specs.declared.answer.Need.TheVariants as needs
 use Rattle.mc_item.specs.declared.class_event.ClassEvent.TheVariants as entries
 use Rattle.mc_item.specs.declared.reply.Room.TheVariants as rooms
-use Rattle.mc_rule.specs.{Lists.from_tail, Lists.list_of, Lists.lists_of, Pairs.IsKeyOf, Pairs.IsRefusal, Places.Has, Segment.Rule, Places.Stands}
+use Rattle.mc_rule.specs.{Lists.IsFull, Lists.from_tail, Lists.list_of, Lists.lists_of, Pairs.IsKeyOf, Pairs.IsRefusal, Places.Has, Segment.Rule, Places.Stands}
 use Rattle.mc_evidence.specs.{Refusals.HasTried, Refusals.NoneNear, Refusals.WasTried, Seen.class_events, Seen.classes_seen}
 use Rattle.mc_evidence.proofs.{EvidenceGrowthLemmas.tried_later, SeenLemmas.class_events-map, SeenLemmas.classes_grow}
-use Rattle.mc_pull.specs.{Tried.IsNoneNear, Question.IsClassOf, Rounds.IsRoom, Rounds.Rounds, Rounds.rounds}
+use Rattle.mc_pull.specs.{Tried.IsNoneNear, Question.IsClassOf, Rounds.ForcesHot, Rounds.IsRoom, Rounds.IsRoomRound, Rounds.Repeats, Rounds.Rounds, Rounds.Walks, Rounds.rounds}
+use Rattle.mc_pull.specs.Pulled.{did_something}
+use Rattle.mc_pull.specs.declared.{judge.Mode.Mode, judge.Mode.TheVariants.Evict, judge.Mode.TheVariants.Force, looking.Answer.Answer, pulled.Pulled.Pulled}
+use Rattle.mc_pull.proofs.SearchTriedLemmas.{walk_tried}
 use Rattle.mc_board.specs.Histories.{Grows, list_at}
 use Rattle.mc_board.specs.declared.rule.Sight.{Sight}
-use Rattle.mc_segment.specs.{ClassCalls.refused_event, ClassState.ClassView, ClassState.chunks_for, ClassState.class_view, ClassState.opened}
+use Rattle.mc_board.proofs.PrefixLemmas.{prefix_trans}
+use Rattle.mc_segment.specs.{ClassCalls.Makes, ClassCalls.Stays, ClassCalls.refused_event, ClassState.ClassView, ClassState.chunks_for, ClassState.class_view, ClassState.opened}
 use Rattle.mc_store.specs.Earned.{HasGoneThrough, HasSearched, IsInVain, IsEarned, IsEarnedAt, IsEarnedIn, IsLastResort}
-use Rattle.mc_store.specs.{Locked.class_lock, Sides.class_told}
+use Rattle.mc_store.specs.{Accounts.Stretch, Accounts.stretch_of, Locked.class_lock, Sides.class_told}
+use Rattle.mc_store.specs.Searches.{HasSeenOf, IsSearchFor, IsSearchedIf, IsSearchedOnce}
 
 -- who has seen all that a class told has seen its history
 pub class_seen : (config : Config) (sight : Sight) (lock : ℕ) (class : ClassNo) (history : List ClassEvent) → lock ≡ class_lock config class → list_at sight.seen lock ≡ class_told history
@@ -50,6 +56,142 @@ gone_through config number v class who moment after made is vain = record {
     had = vain.had;
   };
 }
+
+-- ---- one search
+
+-- rounds that made room in a class are one search of it
+pub searched_once : (config : Config) (v : ClassView) (who : Who) (moment : ℕ) (answers : List Answer) (after : List ClassEvent) (found : Bool) → IsClassOf config v
+    → IsRoom (rounds v who moment config) v.history answers after found → IsSearchedOnce config v.number who moment v.history after
+searched_once config v who moment answers after found made room = record {
+  answers = answers;
+  found = found;
+  room = subst (λ (r : Rounds). IsRoom r v.history answers after found) (rounds_same config v v.number who moment made refl) room;
+}
+
+-- a walk only adds to a history
+walk_longer : (r : Rounds) (s : Seg) (mode : Mode) (before after : List ClassEvent) (xs : List Answer) (pulled : Pulled) → Walks r s mode before xs after pulled → length before ≤ length after
+walk_longer r s mode before after xs pulled walk =
+    let tried = walk_tried r s mode before after xs pulled walk in
+    let long : length after ≡ length before + length tried.0 = ap (λ (h : List ClassEvent). length h) tried.1 ∙ length-append before tried.0 in
+    omega (arith, long)
+
+-- and so do the walks of a round
+forced_longer : (r : Rounds) (did : Bool) (before after : List ClassEvent) (xs : List Answer) → ForcesHot r did before xs after → length before ≤ length after
+forced_longer r true before after xs forced =
+    let long : length after ≡ length before = ap (λ (h : List ClassEvent). length h) forced.1 in omega (arith, long)
+forced_longer r false before after xs forced = walk_longer r Hot Force before after xs forced.0 forced.1
+
+round_longer : (r : Rounds) (before after : List ClassEvent) (xs : List Answer) → IsRoomRound r before xs after → length before ≤ length after
+round_longer r before after xs round =
+    let first = walk_longer r Cold Evict before round.between round.cold round.pulled round.cold_is in
+    let more = forced_longer r (did_something round.pulled) round.between after round.hot round.hot_is in
+    omega (arith, first, more)
+
+rounds_longer : (r : Rounds) (times : ℕ) (before after : List ClassEvent) (xs : List Answer) → Repeats (IsRoomRound r) times before xs after → length before ≤ length after
+rounds_longer r zero before after xs each =
+    let long : length after ≡ length before = ap (λ (h : List ClassEvent). length h) each.1 in omega (arith, long)
+rounds_longer r (suc times) before after xs each =
+    let first = rounds_longer r times before each.0 each.1 each.3 in
+    let more = round_longer r each.0 after each.2 each.4 in
+    omega (arith, first, more)
+
+-- a search, if there was one, only adds to a class's history
+pub search_longer : (config : Config) (who : Who) (moment : ℕ) (sight : Sight) (v w : ClassView) → IsSearchedIf config who moment sight v w → length v.history ≤ length w.history
+search_longer config who moment sight v w (inl free) =
+    let long : length w.history ≡ length v.history = ap (λ (h : List ClassEvent). length h) free.1 in omega (arith, long)
+search_longer config who moment sight v w (inr searched) =
+    let room = searched.0.room in
+    rounds_longer (rounds (opened config v.number) who moment config) room.times v.history w.history searched.0.answers room.each
+
+-- the history of a class that was seen was seen by whoever has seen more
+pub seen_of_grows : (config : Config) (class : ClassNo) (history : List ClassEvent) (a b : Sight) → Grows a b → HasSeenOf config a class history → HasSeenOf config b class history
+seen_of_grows config class history a b grows seen =
+    let lock = class_lock config class in prefix_trans (class_told history) (list_at a.seen lock) (list_at b.seen lock) seen (grows.at lock)
+
+-- a search for what is needed is one by whoever has seen more
+pub search_grows : (config : Config) (need : Need) (who : Who) (moment : ℕ) (a b : Sight) (stretch : Stretch) → Grows a b → IsSearchFor config need who moment a stretch
+    → IsSearchFor config need who moment b stretch
+search_grows config need who moment a b stretch grows (inl none) = inl none
+search_grows config need who moment a b stretch grows (inr search) =
+    let one = search.2 in
+    inr (
+      search.0,
+      search.1,
+      record {
+        before = one.before;
+        searched = one.searched;
+        once = one.once;
+        refusal = one.refusal;
+        refusal_is = one.refusal_is;
+        from_is = one.from_is;
+        until_is = one.until_is;
+        seen = seen_of_grows config search.0 (one.searched ++ one.refusal) a b grows one.seen;
+      },
+    )
+
+-- the places that a class gained by a search, if there was one, are a search for what is needed
+pub search_alone : (config : Config) (need : Need) (who : Who) (moment : ℕ) (sight : Sight) (v w : ClassView) → need ≡ needs.Fresh v.number → IsSearchedIf config who moment sight v w
+    → IsSearchFor config need who moment sight (stretch_of v w)
+search_alone config need who moment sight v w fresh (inl free) =
+    let long : length w.history ≡ length v.history = ap (λ (h : List ClassEvent). length h) free.1 in
+    let none : length w.history ≤ length v.history = omega (arith, long) in
+    inl none
+search_alone config need who moment sight v w fresh (inr searched) =
+    let same : w.history ≡ w.history ++ [] = sym (append-nil w.history) in
+    inr (
+      v.number,
+      fresh,
+      record {
+        before = v.history;
+        searched = w.history;
+        once = searched.0;
+        refusal = [];
+        refusal_is = inl refl;
+        from_is = refl;
+        until_is = ap (λ (h : List ClassEvent). length h) same;
+        seen = subst (λ (h : List ClassEvent). HasSeenOf config sight v.number h) same searched.1;
+      },
+    )
+
+-- a class that noted an event, or stayed as it was, has no shorter history
+pub made_longer : (v w : ClassView) (event : ClassEvent) → Makes v w event → length v.history ≤ length w.history
+made_longer v w event makes =
+    let long : length w.history ≡ length v.history + 1 = ap (λ (c : ClassView). length c.history) makes ∙ length-append v.history (event ∷ []) in
+    omega (arith, long)
+
+pub stayed_longer : (v w : ClassView) → Stays v w → length v.history ≤ length w.history
+stayed_longer v w stays =
+    let long : length w.history ≡ length v.history = ap (λ (c : ClassView). length c.history) stays.0 in omega (arith, long)
+
+-- the places that a class gained by a search, and those that it gained behind a try that made nothing, are in those that it gained in all
+pub refused_bounds : (config : Config) (who : Who) (moment : ℕ) (sight : Sight) (v w x y : ClassView) → IsSearchedIf config who moment sight v w → x.history ≡ w.history
+    → length x.history ≤ length y.history
+    → ((length v.history ≤ length v.history) × (length w.history ≤ length y.history)) × ((length v.history ≤ length x.history) × (length y.history ≤ length y.history))
+refused_bounds config who moment sight v w x y searched same more =
+    let first = search_longer config who moment sight v w searched in
+    let long : length x.history ≡ length w.history = ap (λ (h : List ClassEvent). length h) same in
+    ((omega arith, omega (arith, long, more)), (omega (arith, first, long), omega arith))
+
+-- a search and the refusal behind it are one for what is needed, where the search left the class full
+pub search_refused : (config : Config) (need : Need) (who : Who) (moment : ℕ) (a b : Sight) (v w x : ClassView) → need ≡ needs.Fresh v.number → IsFull w.chunks w.history
+    → IsSearchedIf config who moment a v w → x.history ≡ w.history ++ refused_event who ∷ [] → HasSeenOf config b v.number x.history → IsSearchFor config need who moment b (stretch_of v x)
+search_refused config need who moment a b v w x fresh full (inl free) is seen = absurd (free.0 full)
+search_refused config need who moment a b v w x fresh full (inr searched) is seen = inr (
+  v.number,
+  fresh,
+  record {
+    before = v.history;
+    searched = w.history;
+    once = searched.0;
+    refusal = refused_event who ∷ [];
+    refusal_is = inr refl;
+    from_is = refl;
+    until_is = ap (λ (h : List ClassEvent). length h) is;
+    seen = subst (λ (h : List ClassEvent). HasSeenOf config b v.number h) is seen;
+  },
+)
+
+-- ---- as more is seen
 
 -- what stands in a list stands there as more is seen
 stands_more : (seen more before : List ClassEvent) (e : ClassEvent) → IsPrefix seen more → Stands seen before e → Stands more before e

@@ -1,18 +1,20 @@
 -- A class whose history grew under its lock, as the pass sees it that made the call.
-use Rattle.std.proofs.Common.{◌≡◌, ◌<◌, ◌+◌, ℕ, Result, Ok, Err, sym, ap, ◌∙◌, subst, inl, inr, length}
+use Rattle.std.proofs.Common.{◌≡◌, ◌≤◌, ◌<◌, ◌+◌, ℕ, List, Result, Ok, Err, sym, ap, ◌∙◌, subst, inl, inr, arith, length}
 use Rattle.std.specs.Prelude.{IfErr, IfOk}
 use mathlib.Core.List.{IsPrefix}
 use Rattle.atomic_table.specs.Seated.{TableId}
-use Rattle.mc_item.specs.declared.{config.Config.Config, counts.Moves.Moves, fault.Fault.Fault}
+use Rattle.mc_item.specs.declared.{config.Config.Config, counts.Moves.Moves, event.Event.Event, fault.Fault.Fault}
 use Rattle.mc_item.specs.declared.{fault.Fault.TheVariants.HistoryFull, item.ClassNo.ClassNo}
 use Rattle.mc_evidence.specs.{Locks.ClassKeeps, Seen.stripes_seen}
 use Rattle.mc_board.specs.Histories.{Grows, list_at}
 use Rattle.mc_board.specs.declared.rule.Sight.{Sight}
+use Rattle.mc_board.proofs.PrefixLemmas.{prefix_self}
 use Rattle.mc_segment.specs.ClassState.{ClassView}
 use Rattle.mc_pull.specs.Growth as classes
 use Rattle.mc_store.specs.{Calls.IsJuggledBy, Calls.IsSeenGrowOf, Calls.IsUpkept, Passes.PassView, Passes.next_who, Crawls.IsSeenSound, Finals.IsBehindAt, Locked.IsHeldClass, Locked.class_lock}
-use Rattle.mc_store.specs.{Locked.setting_of, Made.HasNoneMadeBy, Serving.HasSeenShort, Serving.MayFailSeen, Sides.ClassSide, Sides.class_told}
-use Rattle.mc_store.proofs.{LockKeepsLemmas.class_sees, ShortHistoryLemmas.short_grows, SyncedStepLemmas.any_short, SyncedStepLemmas.short_of}
+use Rattle.mc_store.specs.{Full.LacksPlaces, Locked.setting_of, Made.HasNoneMadeBy, Serving.IsShortFor, Serving.MayFailSeen, Sides.ClassSide, Sides.class_told, Walking.class_sight}
+use Rattle.mc_store.proofs.AccountLemmas.{whole_shared}
+use Rattle.mc_store.proofs.{LockKeepsLemmas.class_sees, ShortHistoryLemmas.short_class, ShortHistoryLemmas.short_grows, SyncedStepLemmas.any_short, SyncedStepLemmas.short_of}
 
 -- what a class's lock keeps is seen by whoever was told of it all
 pub seen_sound : (table : TableId) (config : Config) (class : ClassNo) (after : Sight) (s : ClassSide) → IsHeldClass table config s → s.class.number ≡ class
@@ -23,6 +25,14 @@ seen_sound table config class after s kept number told all = record {
   now = ap (λ (k : ℕ). list_at after.seen k) (sym (kept.lock_is ∙ ap (class_lock config) number)) ∙ told;
   sound = subst (λ (n : ClassNo). ClassKeeps (setting_of config) n s.class.history (stripes_seen (list_at after.seen))) number (class_sees table config s after all kept).keeps;
 }
+
+-- whoever was told of it all, and learnt all that it has seen, has seen both
+pub class_shared : (table : TableId) (config : Config) (s : ClassSide) (after : Sight) → IsHeldClass table config s → list_at after.seen s.lock ≡ class_told s.class.history → Grows s.sight after
+    → Grows (class_sight config s) after
+class_shared table config s after kept told all =
+    let now : list_at after.seen (class_lock config s.class.number) ≡ class_told s.class.history = ap (λ (k : ℕ). list_at after.seen k) (sym kept.lock_is) ∙ told in
+    whole_shared s.sight {y = after} (class_lock config s.class.number) (class_told s.class.history)
+    (subst (λ (l : List Event). IsPrefix (class_told s.class.history) l) (sym now) (prefix_self (class_told s.class.history))) (λ at other. all.at at)
 
 module _ (table : TableId) (config : Config) (class : ClassNo) (before after : Sight) (old new : ClassSide) (old_kept : IsHeldClass table config old) (new_kept : IsHeldClass table config new)
     (number : old.class.number ≡ class) (grows : classes.GainsEvents old.class new.class) (behind : IsBehindAt before old.lock (class_told old.class.history))
@@ -47,15 +57,20 @@ module _ (table : TableId) (config : Config) (class : ClassNo) (before after : S
   }
 
   -- where the call failed for a full history, the pass has seen it
-  pub full_seen : MayFailSeen config new.sight new.class HistoryFull → HasSeenShort config after
+  pub full_seen : MayFailSeen config new.sight new.class HistoryFull → IsShortFor config class after
   full_seen (inl lack) =
-      any_short config after (short_of config after new.lock new.class.number new.class.history new_kept.lock_is new_kept.is told
-      (subst (λ (n : ℕ). n < length new.class.history + 2) new_kept.made_with.max_events lack))
-  full_seen (inr short) = short_grows config new.sight after all short
+      subst (λ (n : ClassNo). IsShortFor config n after) new_number
+      (any_short config after (short_of config after new.lock new.class.number new.class.history new_kept.lock_is new_kept.is told
+      (subst (λ (n : ℕ). n < length new.class.history + 2) new_kept.made_with.max_events lack)))
+  full_seen (inr short) = subst (λ (n : ClassNo). IsShortFor config n after) new_number (short_grows config new.sight after all short)
 
   -- the fault of a call
-  pub fails_full : {T : Type 0} (r : Result T Fault) → IfErr r (MayFailSeen config new.sight new.class) → r ≡ Err HistoryFull → HasSeenShort config after
+  pub fails_full : {T : Type 0} (r : Result T Fault) → IfErr r (MayFailSeen config new.sight new.class) → r ≡ Err HistoryFull → IsShortFor config class after
   fails_full r may is = full_seen (subst (λ (x : Result _ Fault). IfErr x (MayFailSeen config new.sight new.class)) is may)
+
+  -- where the class's history has no place left, the pass has seen it
+  pub lacks_seen : new.class.max_events ≤ length new.class.history → LacksPlaces config after class 1
+  lacks_seen full = subst (λ (n : ClassNo). LacksPlaces config after n 1) new_number (short_class table config new after 1 new_kept told (omega (arith, full)))
 
   -- the class was juggled
   pub juggled_so : (p p_new : PassView) (moment : ℕ) (r : Result Moves Fault) → HasNoneMadeBy (next_who p) old.class.history → before ≡ p.sight → after ≡ p_new.sight

@@ -1,6 +1,6 @@
 -- One try on the classes that a command holds: what it may still want, and that a refusal was earned.
-use Rattle.std.proofs.Common.{◌≡◌, ◌≢◌, ◌≤◌, ◌<◌, ◌+◌, ◌++◌, ◌∷◌, ◌⊎◌, [], ℕ, List, Bool, true, false, Result, Ok, Err, inl, inr, length, refl, sym, ap, ◌∙◌, subst, arith}
-use Rattle.std.specs.Prelude.{◌==◌, Option, Some, None, IfOk, IfSome, IsSomeAnd, if◌then◌else◌, slice_get}
+use Rattle.std.proofs.Common.{◌≡◌, ◌≢◌, ◌≤◌, ◌<◌, ◌+◌, ◌⊎◌, [], ℕ, List, Bool, true, false, Result, Ok, Err, inl, inr, length, refl, sym, ap, ◌∙◌, subst, arith}
+use Rattle.std.specs.Prelude.{◌==◌, Option, Some, None, IfOk, IfSome, IsSomeAnd, OnErr, if◌then◌else◌, slice_get}
 use Rattle.std.proofs.lemmas.Bool.Decides.{nat_tests}
 use Rattle.mc_item.specs.{Answer.Row, Answer.row_of, Command.key_of, Item.link_of_item, Stripe.link_of}
 use Rattle.mc_item.specs.declared.{answer.Need.Need, command.Command.Command, class_event.ClassEvent.ClassEvent, config.Config.Config, fault.Fault.Fault}
@@ -24,13 +24,13 @@ use Rattle.mc_stripe.specs.declared.wanting.Want.TheVariants as wants
 use Rattle.mc_pull.specs.Attempt.{GivesHome, IsNoted, IsReady, LeavesPlaces, OffersHome, OffersOther}
 use Rattle.mc_pull.specs.declared.{attempting.Tried.Tried, attempting.Tried.TheVariants.Made, attempting.Tried.TheVariants.Wants}
 use Rattle.mc_store.specs.{Earned.HasGivenUp, Earned.IsEarnedAt, Earned.IsEarnedIn, Locked.IsLockedClass, Passes.CallerView}
-use Rattle.mc_store.specs.{Full.HasSeenFull, Full.IsRoomOf, Full.LacksEntries, Full.LacksPlaces, Serving.HasSeenShort}
+use Rattle.mc_store.specs.{Full.HasSeenFull, Full.IsRoomOf, Full.LacksEntries, Full.LacksPlaces, Serving.IsShortFor}
 use Rattle.mc_store.specs.{Sides.ClassSide, Sides.StripeSide, Sides.class_told, Trying.IsMadeBy, Trying.IsTriedUnder}
 use Rattle.mc_store.specs.Trying.{Stay, StillTries}
 use Rattle.mc_store.specs.declared.replied.Replied.{Replied}
 use Rattle.mc_store.specs.Held.{IsMadeIn, IsRefusedAt, IsStillFull, IsTriedOn, MayWant, Suffice, WantsAlone, WantsChunk, nothing}
 use Rattle.mc_store.proofs.{CommandLemmas.changes_two, CommandLemmas.link_one, CommandLemmas.not_dead, CommandLemmas.visible_alive, EarnedRefusalLemmas.earned_sees, NeededClassLemmas.fresh_classes}
-use Rattle.mc_store.proofs.EnteredLemmas.{noted_still, tries_both}
+use Rattle.mc_store.proofs.EnteredLemmas.{heard_tried, tries_heard}
 use Rattle.mc_store.proofs.{FullLemmas.full_class, FullLemmas.lacks_grows, FullLemmas.seen_full_grows, ShortHistoryLemmas.short_class, SyncedStepLemmas.any_short}
 
 pub some_none : {A : Type 0} (a : A) (o : Option A) → o ≡ Some a → o ≡ None → ⊥
@@ -45,17 +45,18 @@ pub covers_more : (given : Given) (wanted : Classes) → Covers nothing wanted �
 covers_more given wanted covers = (holds_none (home_class given) wanted.home covers.0, holds_none (other_class given) wanted.other covers.1)
 
 -- what a try under locks came to, on classes of these numbers
-module _ (config : Config) (s : Stripe) (own_new : StripeSide) (caller caller_new : CallerView) (made : Command) (turn : Turn) (given : Given) (cs ds : List ClassSide) (home other : Option ClassNo) (AnyFull : Type 0)
+module _ (config : Config) (own own_new : StripeSide) (caller caller_new : CallerView) (made : Command) (turn : Turn) (given : Given) (cs ds : List ClassSide) (home other : Option ClassNo) (AnyFull : Type 0)
     (for_home : home_class given ≡ home) (for_other : other_class given ≡ other) where
   abbrev IsLacking : Want → Type 0
-  IsLacking want = IsWanting given (key_of made) (item_of s made) turn.moment (row_at s made turn.moment) want
+  IsLacking want = IsWanting given (key_of made) (item_of own.stripe made) turn.moment (row_at own.stripe made turn.moment) want
 
-  may_want : (Stay cs ds → LacksRoom given (key_of made) (item_of s made) turn.moment (row_at s made turn.moment) → AnyFull)
-      → (Stay cs ds → (class : ClassNo) → IsCrowded given (key_of made) (item_of s made) turn.moment (row_at s made turn.moment) class → LacksEntries config s own_new.sight made turn.moment)
-      → (want : Want) → Stay cs ds → IsLacking want → MayWant config s own_new made turn.moment home other AnyFull want
+  may_want : (Stay cs ds → LacksRoom given (key_of made) (item_of own.stripe made) turn.moment (row_at own.stripe made turn.moment) → AnyFull)
+      → (Stay cs ds → (class : ClassNo) → IsCrowded given (key_of made) (item_of own.stripe made) turn.moment (row_at own.stripe made turn.moment) class
+      → LacksEntries config own.stripe own_new.sight made turn.moment)
+      → (want : Want) → Stay cs ds → IsLacking want → MayWant config own.stripe own_new made turn.moment home other AnyFull want
   may_want full short (wants.Burial link) stay lacking = lacking
   may_want full short (wants.Classes classes) stay lacking =
-      let wanted = classes_for (key_of made) (item_of s made) (row_at s made turn.moment) in (
+      let wanted = classes_for (key_of made) (item_of own.stripe made) (row_at own.stripe made turn.moment) in (
         (lacking.0, lacking.1, λ covers. lacking.2 (covers_more given classes covers)),
         λ suffice. lacking.2 (subst (Covers given) (sym lacking.1) (
           subst (λ (o : Option ClassNo). Holds o wanted.home) (sym for_home) suffice.for_version,
@@ -65,13 +66,49 @@ module _ (config : Config) (s : Stripe) (own_new : StripeSide) (caller caller_ne
   may_want full short wants.Room stay lacking = full stay lacking
   may_want full short (wants.Place class) stay lacking = short stay class lacking
 
-  pub tried_on : ((room : Room) → IsTaken given (row_at s made turn.moment).need room → IsEarnedIn config s.site.stripe turn.who turn.moment (key_of made) own_new.sight room)
-      → (Stay cs ds → LacksRoom given (key_of made) (item_of s made) turn.moment (row_at s made turn.moment) → AnyFull)
-      → (Stay cs ds → (class : ClassNo) → IsCrowded given (key_of made) (item_of s made) turn.moment (row_at s made turn.moment) class → LacksEntries config s own_new.sight made turn.moment)
-      → (r : Result Tried Fault) → IfOk r (IsTriedUnder config s own_new.stripe caller caller_new made turn given cs ds) → IfOk r (IsTriedOn config s own_new caller caller_new made turn home other AnyFull)
+  pub tried_on : ((room : Room) → IsTaken given (row_at own.stripe made turn.moment).need room
+      → IsEarnedIn config own.stripe.site.stripe turn.who turn.moment (key_of made) own_new.sight room)
+      → (Stay cs ds → LacksRoom given (key_of made) (item_of own.stripe made) turn.moment (row_at own.stripe made turn.moment) → AnyFull)
+      → (Stay cs ds → (class : ClassNo) → IsCrowded given (key_of made) (item_of own.stripe made) turn.moment (row_at own.stripe made turn.moment) class
+      → LacksEntries config own.stripe own_new.sight made turn.moment)
+      → (r : Result Tried Fault) → IfOk r (IsTriedUnder config own own_new caller caller_new made turn given cs ds)
+      → IfOk r (IsTriedOn config own own_new caller caller_new made turn home other AnyFull)
   tried_on earned full short (Ok (Made reply woken)) tried = record { alive = tried.uses.alive; room = tried.room; made_is = tried.made_is; noted = tried.noted; earned = earned tried.room tried.uses.taken }
   tried_on earned full short (Ok (Wants want)) tried = (tried.0, tried.1, may_want full short want tried.2 tried.3)
   tried_on earned full short (Err fault) tried = tt
+
+-- what a stripe came to that had only heard more before it is tried
+module _ (config : Config) (own heard end : StripeSide) (caller caller_new : CallerView) (made : Command) (turn : Turn) (is : heard ≡ record own { sight = heard.sight }) (more : Grows own.sight heard.sight) where
+  module _ (given : Given) (cs ds : List ClassSide) where
+    tried_seen : (sight : Sight) → Grows own.sight sight → (r : Result Tried Fault) → IfOk r (IsTriedUnder config (record own { sight = sight }) end caller caller_new made turn given cs ds)
+        → IfOk r (IsTriedUnder config own end caller caller_new made turn given cs ds)
+    tried_seen sight sees (Ok (Made reply woken)) tried = record {
+      room = tried.room;
+      fate = tried.fate;
+      uses = tried.uses;
+      made_is = tried.made_is;
+      noted = heard_tried config turn own (record own { sight = sight }) end refl sees refl tried.noted;
+    }
+    tried_seen sight sees (Ok (Wants want)) tried = (tried.0, heard_tried config turn own (record own { sight = sight }) end refl sees refl tried.1, tried.2, tried.3)
+    tried_seen sight sees (Err fault) tried = tt
+
+    pub tried_heard : (r : Result Tried Fault) → IfOk r (IsTriedUnder config heard end caller caller_new made turn given cs ds) → IfOk r (IsTriedUnder config own end caller caller_new made turn given cs ds)
+    tried_heard r tried = tried_seen heard.sight more r (subst (λ (x : StripeSide). IfOk r (IsTriedUnder config x end caller caller_new made turn given cs ds)) is tried)
+
+  -- or that failed
+  pub err_heard : (r : Result Tried Fault) → OnErr r ((end.stripe.history ≡ heard.stripe.history) × StillTries config turn heard end caller caller_new)
+      → OnErr r ((end.stripe.history ≡ own.stripe.history) × StillTries config turn own end caller caller_new)
+  err_heard (Ok tried) err = tt
+  err_heard (Err fault) err = (err.0 ∙ ap (λ (x : StripeSide). x.stripe.history) is, heard_tried config turn own heard end is more refl err.1)
+
+-- a stripe that heard more and then more
+pub heard_both : (own mid last : StripeSide) → mid ≡ record own { sight = mid.sight } → last ≡ record mid { sight = last.sight } → last ≡ record own { sight = last.sight }
+heard_both own mid last first more = more ∙ ap (λ (x : StripeSide). record x { sight = last.sight }) first
+
+-- where it has only heard more nothing was made
+pub only_heard : (config : Config) (turn : Turn) (own heard : StripeSide) (caller : CallerView) → heard ≡ record own { sight = heard.sight } → Grows own.sight heard.sight
+    → (heard.stripe.history ≡ own.stripe.history) × StillTries config turn own heard caller caller
+only_heard config turn own heard caller is more = (ap (λ (x : StripeSide). x.stripe.history) is, tries_heard config turn own heard is more refl)
 
 -- a chunk is wanted of the class of a new version that is held
 pub wants_chunk : (s : Stripe) (made : Command) (moment : ℕ) (given : Given) (class : ClassNo) (other : Option ClassNo) → home_class given ≡ Some class
@@ -146,7 +183,8 @@ keeps_full config sight was v v_new refused who (Some h) offers readied stay see
       history_is = ap (λ (x : ClassView). x.history) stay ∙ ap (λ (x : ClassView). x.history) readied;
       number_is = ap (λ (x : ClassView). x.number) stay ∙ ap (λ (x : ClassView). x.number) readied;
       seen = subst (λ (x : ClassView). HasSeenFull config sight x.number) (sym stay) (seen full);
-      short = λ few. any_short config sight (short 2 (subst (λ (x : ClassView). x.max_events < length x.history + 2) stay few));
+      short = λ few. subst (λ (x : ClassView). IsShortFor config x.number sight) (sym stay)
+          (any_short config sight (short 2 (subst (λ (x : ClassView). x.max_events < length x.history + 2) stay few)));
     }
 
 -- where the classes that are held suffice no burial is wanted
@@ -362,8 +400,8 @@ module _ (table : TableId) (config : Config) (was side : ClassSide) (sight : Sig
 -- ---- what is left to do
 
 -- a class that is full and has no place for its refusal is short, as the stripe has seen
-pub refuse_short : (config : Config) (sight : Sight) (v v_new : ClassView) → (v.max_events < length v.history + 2 → HasSeenShort config sight)
-    → v_new ≡ with_room v v_new.room → v_new.max_events ≤ length v_new.history → HasSeenShort config sight
+pub refuse_short : (config : Config) (sight : Sight) (v v_new : ClassView) → (v.max_events < length v.history + 2 → IsShortFor config v.number sight)
+    → v_new ≡ with_room v v_new.room → v_new.max_events ≤ length v_new.history → IsShortFor config v.number sight
 refuse_short config sight v v_new short same full =
     let limit : v_new.max_events ≡ v.max_events = ap (λ (x : ClassView). x.max_events) same in
     let long : length v_new.history ≡ length v.history = ap (λ (x : ClassView). length x.history) same in
@@ -381,26 +419,13 @@ earned_now config number turn key v v_new place makes at given_up =
       searched = given_up;
     })
 
--- a command that was made, of a caller that had noted nothing
-pub made_caller : (config : Config) (s : Stripe) (own_new : StripeSide) (caller mid caller_new : CallerView) (made : Command) (turn : Turn) (replied : Replied)
-    → StillTries config made turn caller mid → IsMadeIn config s own_new mid caller_new made turn replied
-    → IsMadeIn config s own_new caller caller_new made turn replied
-made_caller config s own_new caller mid caller_new made turn replied still was = record {
-  alive = was.alive;
-  room = was.room;
-  made_is = was.made_is;
-  noted = tries_both config made turn (noted_still config made turn s still) was.noted;
-  earned = was.earned;
-}
-
 -- a command that was made on its stripe alone
-pub made_alone : (config : Config) (s : Stripe) (own_new : StripeSide) (caller mid caller_new : CallerView) (made : Command) (turn : Turn) (replied : Replied)
-    → StillTries config made turn caller mid → IsMadeBy config s own_new.stripe mid caller_new made turn nothing replied
-    → IsMadeIn config s own_new caller caller_new made turn replied
-made_alone config s own_new caller mid caller_new made turn replied still by = record {
+pub made_alone : (config : Config) (own own_new : StripeSide) (caller caller_new : CallerView) (made : Command) (turn : Turn) (replied : Replied)
+    → IsMadeBy config own own_new caller caller_new made turn nothing replied → IsMadeIn config own own_new caller caller_new made turn replied
+made_alone config own own_new caller caller_new made turn replied by = record {
   alive = by.uses.alive;
   room = by.room;
   made_is = by.made_is;
-  noted = tries_both config made turn (noted_still config made turn s still) by.noted;
-  earned = none_earned config s turn (key_of made) own_new.sight nothing (row_at s made turn.moment).need by.room refl by.uses.taken;
+  noted = by.noted;
+  earned = none_earned config own.stripe turn (key_of made) own_new.sight nothing (row_at own.stripe made turn.moment).need by.room refl by.uses.taken;
 }

@@ -1,13 +1,14 @@
 -- A judgement of a class's entry with its key's stripe, where the class's tokens are apart from it: each call that tells.
-use Rattle.std.proofs.Common.{◌≡◌, ◌<◌, ℕ, drop, length, sym, ap, ◌∙◌, subst}
-use Rattle.std.specs.Prelude.{Option, Some, IsSomeAnd}
+use Rattle.std.proofs.Common.{◌≡◌, ◌<◌, ℕ, List, arith, drop, length, refl, sym, ap, ◌∙◌, subst}
+use Rattle.std.specs.Prelude.{◌≤◌, Option, Some, IsSomeAnd}
 use mathlib.Core.List.{IsPrefix}
 use Rattle.atomic_table.specs.Seated.{TableId}
 use Rattle.mc_item.specs.Stripe.{IsLegal}
-use Rattle.mc_item.specs.declared.{answer.Site.Site, config.Config.Config, fault.Fault.Fault, item.Who.Who}
+use Rattle.mc_item.specs.declared.{answer.Site.Site, config.Config.Config, event.Event.Event, fault.Fault.Fault, item.Who.Who}
 use Rattle.mc_rule.specs.{Lawful.IsLawfulHistoryByLists, Segment.Rule}
-use Rattle.mc_board.specs.{Accounts.AreBy, Accounts.with_new, Histories.Grows, Histories.with_seen, Views.OwnerView, Views.SeenView}
-use Rattle.mc_board.proofs.{AccountLemmas.are_by_end, PrefixLemmas.prefix_self}
+use Rattle.mc_board.specs.{Accounts.AreBy, Accounts.with_new, Histories.Grows, Histories.list_at, Histories.with_seen, Views.OwnerView, Views.SeenView}
+use Rattle.mc_board.specs.declared.rule.Sight.{Sight}
+use Rattle.mc_board.proofs.{AccountLemmas.are_by_end, PrefixLemmas.prefix_length, PrefixLemmas.prefix_self, SeenLemmas.list_at_other, SeenLemmas.list_at_same}
 use Rattle.mc_segment.specs.ClassState.{ClassView, chunks_for}
 use Rattle.mc_stripe.specs.{StripeCalls.KeepsSite, StripeState.Stripe, StripeState.cache_now}
 use Rattle.mc_pull.specs.declared.{judge.Done.Done, looking.Judged.Judged}
@@ -15,12 +16,13 @@ use Rattle.mc_pull.specs.{Agreeing.AgreeNow, Agreeing.KeepsAgreement, Judgement.
 use Rattle.mc_pull.specs.{Question.MayJudge, Question.Question, Refusal.MayFail, Sight.KeepsSight, Walker.Walker}
 use Rattle.mc_pull.specs.Growth as classes
 use Rattle.mc_pull.proofs.NoStrangerLemmas.{known}
-use Rattle.mc_store.specs.{Accounts.IsOfWalk, Accounts.StillCalls, Looked.IsKnown, Locked.IsHeldClass, Locked.IsLockedStripe, Locked.HasBegun, Locked.class_lock, Passes.CallerView}
+use Rattle.mc_store.specs.{Accounts.IsOfStretch, Accounts.Stretch, Looked.IsKnown, Locked.IsHeldClass, Locked.IsLockedStripe, Locked.HasBegun, Locked.class_lock, Passes.CallerView}
 use Rattle.mc_store.specs.Serving.{IsServed, MayFailSeen}
-use Rattle.mc_store.specs.{Serving.class_side, Sides.StripeSide, Sides.class_told, Sides.stripe_told}
-use Rattle.mc_store.proofs.{VisitedStripeLemmas.judged_listed, LockKeepsLemmas.class_sees, LockKeepsLemmas.site_of_number, LockKeepsLemmas.stripe_sees, CallerLemmas.begun_sees}
-use Rattle.mc_store.proofs.AccountLemmas.{still_both, still_looked, still_walked}
-use Rattle.mc_store.proofs.SyncedStepLemmas.{agree_told, class_stepped, fails_seen, stripe_side, stripe_stepped}
+use Rattle.mc_store.specs.{Serving.class_side, Sides.StripeSide, Sides.class_told, Sides.stripe_told, Walking.StillWalksFrom, Walking.with_class}
+use Rattle.mc_store.proofs.{VisitedStripeLemmas.judged_listed, LockKeepsLemmas.class_sees, LockKeepsLemmas.grows_trans, LockKeepsLemmas.site_of_number, LockKeepsLemmas.stripe_sees, CallerLemmas.begun_sees}
+use Rattle.mc_store.proofs.AccountLemmas.{grows_itself, still_both, still_looked, still_walked, whole_grows}
+use Rattle.mc_store.proofs.GateLemmas.{class_within, no_class_lock}
+use Rattle.mc_store.proofs.SyncedStepLemmas.{agree_told, class_stepped, class_told_more, fails_seen, map_length, stripe_side, stripe_stepped}
 
 module _ (table : TableId) (config : Config) (own : StripeSide) (own_kept : IsLockedStripe table config own) (s : Stripe) (own_owner : OwnerView) (own_seen : SeenView) (own_is : stripe_side own_owner own_seen s ≡ own)
     (owner : OwnerView) (seen : SeenView) (c : ClassView) {who : Who} (served : IsServed table config who owner seen c)
@@ -58,18 +60,6 @@ module _ (table : TableId) (config : Config) (own : StripeSide) (own_kept : IsLo
   agree : AgreeNow c s_lent
   agree = agree_told table config before (class_side owner seen c) before_kept served.kept lent_seen.sight heard.sight told_is told_of_is more_is more_of
 
-  -- the caller's account gained only events of the class and of the stripe: what the board lacked of the class before, and of both after
-  pub still_judged : (caller caller_up caller_mid caller_last : CallerView) (turn from until from' until' from'' until'' : ℕ)
-      → caller_up ≡ record caller { made = with_new caller.made turn owner.lock from until } → caller_mid ≡ record caller_up { made = with_new caller_up.made turn lent_owner.lock from' until' }
-      → caller_last ≡ record caller_mid { made = with_new caller_mid.made turn owner_told.lock from'' until'' } → StillCalls (IsOfWalk config c.number) turn caller caller_last
-  still_judged caller caller_up caller_mid caller_last turn from until from' until' from'' until'' first second third =
-      let Suits = IsOfWalk config c.number in
-      let of : lent_owner.lock < config.stripes = subst (λ (n : ℕ). n < config.stripes) (sym before_kept.lock_is) before_kept.of in
-      let at : owner_told.lock ≡ class_lock config c.number = ap (λ (o : OwnerView). o.lock) (same ∙ up) ∙ served.kept.lock_is in
-      still_both Suits turn caller caller_up caller_last (still_walked config c.number caller caller_up turn owner.lock from until first served.kept.lock_is)
-      (still_both Suits turn caller_up caller_mid caller_last (still_looked config c.number caller_up caller_mid turn lent_owner.lock from' until' second of)
-      (still_walked config c.number caller_mid caller_last turn owner_told.lock from'' until'' third at))
-
   -- what was done with an entry of the stripe is what the stripe tells, which knows it
   pub known_judged : (q : Question) (j : Option Judged) (d : Done) (at : ℕ) → MayJudge c q → HasKeyOf (record { 0 = s_lent.site.stripe }) config c q → d ≡ done_of c (cache_now s_lent) q → j ≡ Some (judgement d at)
       → IsSomeAnd j (IsKnown c s_lent q)
@@ -100,6 +90,68 @@ module _ (table : TableId) (config : Config) (own : StripeSide) (own_kept : IsLo
 
     told_of_new_is : last.sight ≡ with_seen heard.sight lent_owner.lock (stripe_told s_new.history)
     told_of_new_is = ap (λ (x : SeenView). x.sight) told_of_new ∙ ap (λ (o : OwnerView). with_seen heard.sight o.lock (stripe_told s_new.history)) stripe_up
+
+    -- what was seen with the class's whole history, before and after
+    abbrev seen_first : Sight
+    seen_first = with_class config c.number c.history seen.sight
+
+    abbrev seen_last : Sight
+    seen_last = with_class config c.number c_new.history last.sight
+
+    seen_grows : Grows seen_first seen_last
+    seen_grows = whole_grows {x = seen.sight} {y = last.sight} (class_lock config c.number) (class_told c.history) (class_told c_new.history)
+        (class_told_more c c_new (class_told c.history) grows refl) (grows_trans seen.sight heard.sight last.sight more_of more_of_new)
+
+    lent_of : lent_owner.lock < config.stripes
+    lent_of = subst (λ (n : ℕ). n < config.stripes) (sym before_kept.lock_is) before_kept.of
+
+    lent_seen_last : list_at seen_last.seen lent_owner.lock ≡ stripe_told s_new.history
+    lent_seen_last =
+        list_at_other last.sight.seen (class_lock config c.number) lent_owner.lock (class_told c_new.history) (no_class_lock config c.number lent_owner.lock lent_of)
+        ∙ (ap (λ (x : Sight). list_at x.seen lent_owner.lock) told_of_new_is ∙ list_at_same heard.sight.seen lent_owner.lock (stripe_told s_new.history))
+
+    lent_within : length s_new.history ≤ length (list_at seen_last.seen lent_owner.lock)
+    lent_within =
+        let long : length (list_at seen_last.seen lent_owner.lock) ≡ length s_new.history =
+        ap (λ (t : List Event). length t) lent_seen_last ∙ map_length Rattle.mc_item.specs.declared.event.Event.TheVariants.Stripe s_new.history in
+        omega (arith, long)
+
+    -- the class's history is no shorter than it was
+    class_longer : length (class_told c.history) ≤ length (class_told c_new.history)
+    class_longer = prefix_length (class_told c.history) (class_told c_new.history) (class_told_more c c_new (class_told c.history) grows refl)
+
+    -- the class's owner has told no less than before
+    pub owner_judged : length owner.history ≤ length owner_last.history
+    owner_judged =
+        let behind = prefix_length owner.history (class_told c.history) served.behind in
+        let longer = class_longer in
+        let long : length owner_last.history ≡ length (class_told c_new.history) = ap (λ (o : OwnerView). length o.history) owner_is in
+        omega (arith, behind, longer, long)
+
+    -- the caller's account gained only events of the class and of the stripe: what the board lacked of the class before, and of both after
+    pub still_judged : (caller caller_up caller_mid caller_last : CallerView) (turn from : ℕ)
+        → caller_up ≡ record caller { made = with_new caller.made turn owner.lock (length owner.history) (length c.history) }
+        → caller_mid ≡ record caller_up { made = with_new caller_up.made turn lent_owner.lock from (length s_new.history) }
+        → caller_last ≡ record caller_mid { made = with_new caller_mid.made turn owner_told.lock (length owner_told.history) (length c_new.history) }
+        → StillWalksFrom config c.number (length owner.history) turn seen.sight last.sight c.history c_new.history caller caller_last
+    still_judged caller caller_up caller_mid caller_last turn from first second third =
+        let all : Stretch = record { from = length owner.history; until = length c_new.history } in
+        let Suits = IsOfStretch config c.number all in
+        let at : owner_told.lock ≡ class_lock config c.number = ap (λ (o : OwnerView). o.lock) (same ∙ up) ∙ served.kept.lock_is in
+        let behind = prefix_length owner.history (class_told c.history) served.behind in
+        let longer = class_longer in
+        let long : length (class_told c.history) ≡ length c.history = map_length Rattle.mc_item.specs.declared.event.Event.TheVariants.Class c.history in
+        let long_new : length (class_told c_new.history) ≡ length c_new.history = map_length Rattle.mc_item.specs.declared.event.Event.TheVariants.Class c_new.history in
+        let caught : length owner_told.history ≡ length (class_told c.history) = ap (λ (o : OwnerView). length o.history) (same ∙ up) in
+        let begins : (length owner.history ≤ length owner.history) × (length c.history ≤ length c_new.history) = (omega arith, omega (arith, longer, long, long_new)) in
+        let ends : (length owner.history ≤ length owner_told.history) × (length c_new.history ≤ length c_new.history) = (omega (arith, behind, caught), omega arith) in
+        still_both Suits turn {x = seen_first} {y = seen_first} {z = seen_last} caller caller_up caller_last
+        (still_walked config c.number all {x = seen_first} {y = seen_first} caller caller_up turn owner.lock (length owner.history) (length c.history) first (grows_itself seen_first)
+        (class_within config c.number c.history seen.sight owner.lock served.kept.lock_is) served.kept.lock_is begins)
+        (still_both Suits turn {x = seen_first} {y = seen_last} {z = seen_last} caller_up caller_mid caller_last
+        (still_looked config c.number all {x = seen_first} {y = seen_last} caller_up caller_mid turn lent_owner.lock from (length s_new.history) second seen_grows lent_within lent_of)
+        (still_walked config c.number all {x = seen_last} {y = seen_last} caller_mid caller_last turn owner_told.lock (length owner_told.history) (length c_new.history) third
+        (grows_itself seen_last) (class_within config c.number c_new.history last.sight owner_told.lock at) at ends))
 
     -- the stripe is as its lock keeps it
     pub stripe_judged : (w : Walker) → HasBegun config own_seen.sight w.who w.moment → StripeGrows w s_lent s_new → IsLockedStripe table config own_last

@@ -1,17 +1,20 @@
 -- A class under its lock has a new limit of chunks: the event was called, and the lock keeps all that it keeps.
-use Rattle.std.proofs.Common.{◌≡◌, ◌<◌, ◌+◌, ◌++◌, ◌∷◌, [], ℕ, zero, suc, List, Some, Result, Ok, Err, append-nil, slice_get, length, sym, ap, ◌∙◌, subst, inl, ⊎_elim, arith}
-use Rattle.std.specs.Prelude.{IfErr, OnOk, OnErr}
+use Rattle.std.proofs.Common.{◌≡◌, ◌≤◌, ◌<◌, ◌+◌, ◌++◌, ◌∷◌, [], ℕ, zero, suc, List, Some, Result, Ok, Err, append-nil, refl, slice_get, length, sym, ap, ◌∙◌, subst, ⊎_elim, arith}
+use Rattle.std.specs.Prelude.{OnOk, OnErr}
 use Rattle.atomic_table.specs.Seated.{TableId}
-use Rattle.mc_item.specs.declared.{call_event.CallEvent.CallEvent, class_event.ClassEvent.ClassEvent, config.Config.Config, fault.Fault.Fault, item.ClassNo.ClassNo, item.Who.Who}
+use Rattle.mc_item.specs.declared.{call_event.CallEvent.CallEvent, class_event.ClassEvent.ClassEvent, config.Config.Config, event.Event.Event, fault.Fault.Fault, item.ClassNo.ClassNo, item.Who.Who}
 use Rattle.mc_item.specs.declared.fault.Fault.TheVariants.{HistoryFull, NoMemory}
 use Rattle.mc_rule.specs.Lawful.{IsLawfulHistoryByLists}
-use Rattle.mc_board.specs.{Accounts.maker_of, Histories.Grows, Histories.list_at}
+use Rattle.mc_board.specs.{Accounts.maker_of, Accounts.with_new, Histories.Grows, Histories.list_at}
 use Rattle.mc_board.specs.declared.rule.Sight.{Sight}
 use Rattle.mc_segment.specs.{ClassCalls.Makes, ClassCalls.MayEnd, ClassCalls.Stays, ClassCalls.limited_event, ClassState.ClassView}
+use Rattle.mc_pull.specs.Growth as classes
 use Rattle.mc_store.specs.Callers.{call_events, calls_told, limits_of, turns_of}
-use Rattle.mc_store.specs.{Calls.HasGained, Calls.IsSeenGrowOf, Locked.IsLockedClass, Locked.caller_place, Locked.locks_for, Passes.CallerView}
+use Rattle.mc_store.specs.{Accounts.StillCalls, Calls.HasGained, Calls.IsSeenGrowOf, Locked.IsLockedClass, Locked.caller_place, Locked.class_lock, Locked.locks_for, Passes.CallerView}
 use Rattle.mc_store.specs.Made.{AreCalledInClass, HasNoneMadeBy, IsLimitCalled, WasCalled}
-use Rattle.mc_store.specs.{Serving.MayFailSeen, Sides.ClassSide}
+use Rattle.mc_store.specs.{Sides.ClassSide, Sides.class_told, Walking.class_sight, Walking.with_class}
+use Rattle.mc_store.proofs.AccountLemmas.{grows_itself, seen_all, still_new, whole_grows}
+use Rattle.mc_store.proofs.{GateLemmas.class_within, LentClassLemmas.class_behind}
 use Rattle.mc_store.proofs.{CallerLemmas.call_events-told, CallerLemmas.get_append, NotedRefusalLemmas.limited_after, NotedRefusalLemmas.noted_does, NotedRefusalLemmas.noted_grows}
 
 -- ---- the event was called
@@ -69,12 +72,30 @@ locked_limited table config old new who chunks kept board lock more sight lawful
           (all_called config old.class.number old.sight who chunks of called old.class.history kept.called) r makes err));
     }
 
+-- ---- what the call enters
+
+-- the caller's account gained only events of the class, as that was under its lock
+pub still_limited : (config : Config) (turn : ℕ) (old was : ClassSide) (c_new : ClassView) (caller caller_new : CallerView) (from : ℕ) → old ≡ was → old.lock ≡ class_lock config old.class.number
+    → classes.GainsEvents old.class c_new → caller_new ≡ record caller { made = with_new caller.made turn old.lock from (length c_new.history) }
+    → StillCalls (λ lock place event. lock ≡ class_lock config was.class.number) turn (class_sight config was) (with_class config c_new.number c_new.history old.sight) caller caller_new
+still_limited config turn old was c_new caller caller_new from is at grows entered =
+    let Suits : (lock place : ℕ) → Event → Type 0 = λ lock place event. lock ≡ class_lock config old.class.number in
+    let last = with_class config old.class.number c_new.history old.sight in
+    let still : StillCalls Suits turn (class_sight config old) last caller caller_new =
+    still_new Suits {x = class_sight config old} {y = last} caller caller_new turn old.lock from (length c_new.history) entered
+    (whole_grows {x = old.sight} {y = old.sight} (class_lock config old.class.number) (class_told old.class.history) (class_told c_new.history)
+    (class_behind (class_told old.class.history) old.class c_new refl grows) (grows_itself old.sight))
+    (seen_all Suits last old.lock from (length c_new.history) (class_within config old.class.number c_new.history old.sight old.lock at) (λ place event low high. at)) in
+    subst (λ (x : ClassSide). StillCalls (λ lock place event. lock ≡ class_lock config x.class.number) turn (class_sight config x) (with_class config c_new.number c_new.history old.sight) caller caller_new) is
+    (subst (λ (n : ClassNo). StillCalls Suits turn (class_sight config old) (with_class config n c_new.history old.sight) caller caller_new) (sym (ap (λ (v : ClassView). v.number) grows.same)) still)
+
 -- ---- how the call ends
 
-pub limit_fails : {T : Type 0} (config : Config) (sight : Sight) (v w : ClassView) (r : Result T Fault) → MayEnd v r → OnErr r (Stays v w) → IfErr r (MayFailSeen config sight w)
-limit_fails config sight v w (Ok x) may stays = tt
-limit_fails config sight v w (Err HistoryFull) may stays = inl (subst (λ (c : ClassView). c.max_events < length c.history + 2) (sym stays.0) (omega (arith, may)))
-limit_fails config sight v w (Err NoMemory) may stays = tt
+-- for a full history, only if that has no place left
+pub limit_full : {T : Type 0} (v w : ClassView) (r : Result T Fault) → MayEnd v r → OnErr r (Stays v w) → r ≡ Err HistoryFull → w.max_events ≤ length w.history
+limit_full v w (Ok x) may stays is = absurd (cc is)
+limit_full v w (Err HistoryFull) may stays is = subst (λ (c : ClassView). c.max_events ≤ length c.history) (sym stays.0) (omega (arith, may))
+limit_full v w (Err NoMemory) may stays is = absurd (cc is)
 
 -- no event at all
 pub limit_stays : {T : Type 0} (v w : ClassView) (r : Result T Fault) → OnErr r (Stays v w) → OnErr r (w.history ≡ v.history)

@@ -4,15 +4,18 @@ use Rattle.std.specs.Prelude.{OnOk, OnErr}
 use Rattle.std.proofs.lemmas.List.{append-nil}
 use Rattle.atomic_table.specs.Seated.{TableId}
 use Rattle.mc_item.specs.declared.{class_event.ClassEvent.ClassEvent, class_event.Limited.Limited, class_event.Refused.Refused, config.Config.Config, fault.Fault.Fault}
-use Rattle.mc_item.specs.declared.item.Who.{Who}
+use Rattle.mc_item.specs.declared.{event.Event.Event, item.ClassNo.ClassNo, item.Who.Who}
+use mathlib.Core.List.{IsPrefix}
 use Rattle.mc_rule.specs.{Cited.IsSuited, Evidence.IsBacked, Lawful.IsLawfulHistoryByLists, Partners.ClearsOnce, Places.Each}
 use Rattle.mc_rule.proofs.EventPlaceLemmas.{each_push}
 use Rattle.mc_board.specs.Histories as seen
+use Rattle.mc_board.proofs.{PrefixLemmas.prefix_self, SeenLemmas.list_at_same}
+use Rattle.mc_board.specs.declared.rule.Sight.{Sight}
 use Rattle.mc_segment.specs.{ClassCalls.Makes, ClassCalls.Stays, ClassCalls.limited_event, ClassCalls.refused_event, ClassState.ClassView}
 use Rattle.mc_pull.specs.Growth.{GainsEvents}
 use Rattle.mc_pull.proofs.OtherSightLemmas.{limit_backed, limit_suited, refusal_backed, refusal_suited}
-use Rattle.mc_store.specs.{Locked.IsHeldClass, Sides.ClassSide}
-use Rattle.mc_store.proofs.LockKeepsLemmas.{class_alone}
+use Rattle.mc_store.specs.{Locked.IsHeldClass, Locked.class_lock, Searches.HasSeenOf, Sides.ClassSide, Sides.StripeSide, Sides.class_told}
+use Rattle.mc_store.proofs.{EnteredLemmas.heard_is, LockKeepsLemmas.class_alone}
 
 module _ {T : Type 0} (v w : ClassView) (event : ClassEvent) where
   -- the class has only grown
@@ -64,3 +67,21 @@ limited_after table config lent lent_new who chunks kept board lock more lawful 
       noted_does v w event (Each (IsBacked t v.rule v.number history)) bears.0 (limit_backed t v.number history v.rule v.history e bears.0) r makes err,
       noted_does v w event (Each (IsSuited t v.number history)) bears.1 (limit_suited t v.number history v.history e bears.1) r makes err,
     ))
+
+-- the stripe of a refusal has only heard more, once the class has learnt of the call and told its history
+pub refused_heard : (own learnt heard : StripeSide) (sight : Sight) → learnt ≡ own → heard ≡ record learnt { sight = sight } → seen.Grows learnt.sight heard.sight
+    → (heard ≡ record own { sight = heard.sight }) × seen.Grows own.sight heard.sight
+refused_heard own learnt heard sight same told more = (
+  heard_is own heard sight (told ∙ ap (λ (x : StripeSide). record x { sight = sight }) same),
+  subst (λ (x : StripeSide). seen.Grows x.sight heard.sight) same more,
+)
+
+-- and it has seen the class's whole history, which was told
+pub refused_seen : (config : Config) (class : ClassNo) (learnt heard : StripeSide) (told now : ClassSide)
+    → heard ≡ record learnt { sight = seen.with_seen learnt.sight told.lock (class_told told.class.history) } → now ≡ told → told.lock ≡ class_lock config class
+    → HasSeenOf config heard.sight class now.class.history
+refused_seen config class learnt heard told now is same at =
+    let history = class_told told.class.history in
+    let list : seen.list_at heard.sight.seen told.lock ≡ history = ap (λ (x : StripeSide). seen.list_at x.sight.seen told.lock) is ∙ list_at_same learnt.sight.seen told.lock history in
+    subst (λ (x : ClassSide). HasSeenOf config heard.sight class x.class.history) (sym same)
+    (subst (λ (k : ℕ). IsPrefix history (seen.list_at heard.sight.seen k)) at (subst (λ (l : List Event). IsPrefix history l) (sym list) (prefix_self history)))

@@ -20,13 +20,13 @@ cache_then : (s : Stripe) (site : Site) (history : List StripeEvent) (event : St
 cache_then s site history event site_is is =
     sym (ap (λ (t : Site). cache_of t s.history) site_is ∙ (ap (λ (h : List StripeEvent). cache_of site h) is ∙ cache_of-push site history event))
 
-pub woken_class : (table : TableId) (config : Config) (s : Stripe) (own : StripeSide) (caller caller_new : CallerView) (command : Command) (turn : Turn) (r : Result Replied Fault)
-    → IsLockedStripe table config own → Ends config s own caller caller_new command turn r → IfSome (woken_in r) (λ link. IsClass (setting_of config) link.class)
-woken_class table config s own caller caller_new command turn (Err fault) kept ends = tt
-woken_class table config s own caller caller_new command turn (Ok replied) kept ends = by replied.woken ends.replied.woken
+pub woken_class : (table : TableId) (config : Config) (own own_new : StripeSide) (caller caller_new : CallerView) (command : Command) (turn : Turn) (r : Result Replied Fault)
+    → IsLockedStripe table config own_new → Ends config own own_new caller caller_new command turn r → IfSome (woken_in r) (λ link. IsClass (setting_of config) link.class)
+woken_class table config own own_new caller caller_new command turn (Err fault) kept ends = tt
+woken_class table config own own_new caller caller_new command turn (Ok replied) kept ends = by replied.woken ends.replied.woken
   where
     history : List StripeEvent
-    history = s.history ++ ends.replied.replied_is.answered.before
+    history = own.stripe.history ++ ends.replied.replied_is.answered.before
 
     did : Did
     did = record {
@@ -37,9 +37,9 @@ woken_class table config s own caller caller_new command turn (Ok replied) kept 
       room = ends.replied.replied_is.answered.room;
     }
 
-    by : (woken : Option Link) → IfSome woken (MakesActive s.site history did) → IfSome woken (λ link. IsClass (setting_of config) link.class)
+    by : (woken : Option Link) → IfSome woken (MakesActive own.stripe.site history did) → IfSome woken (λ link. IsClass (setting_of config) link.class)
     by None active = tt
     by (Some link) active =
-        active_class table config own kept (key_of command) link
+        active_class table config own_new kept (key_of command) link
         (subst (λ (c : Cache). IsSomeAnd (c.items (key_of command)) (λ item. (item.link ≡ link) × (item.marks.active ≡ true)))
-        (cache_then own.stripe s.site history (events.Did did) ends.site.site ends.replied.replied_is.answered.history_is) active.is)
+        (cache_then own_new.stripe own.stripe.site history (events.Did did) ends.site.site ends.replied.replied_is.answered.history_is) active.is)

@@ -16,7 +16,7 @@ use Rattle.mc_evidence.proofs.SeenLemmas.{stripe_events-map, stripes_grow}
 use Rattle.mc_store.specs.Callers.{HasNoAnswer, IsCalled, IsNext, IsPlace, IsUnanswered, answered_at, asked_for, moment_of, placed_from, placed_in, turns_of}
 use Rattle.mc_store.specs.{Calls.IsCutBy, Calls.IsRepliedBy, Finals.AreItsOwn, Finals.AreJustPlaced, Finals.AreStripes, Finals.HasNoDid}
 use Rattle.mc_store.specs.{Finals.IsBehindStripes, Finals.stripe_histories, Finals.stripe_history, Headline.answered_did, Sides.StripeSide, Sides.stripe_told}
-use Rattle.mc_store.specs.Passes.{ArePlaced, CallerView, HasAsked, IsDidBy, IsPlacedIn, PassView, caller_of, next_call}
+use Rattle.mc_store.specs.Passes.{ArePlaced, CallerView, HasAsked, IsDidBy, IsPlacedIn, PassView, caller_of, next_who}
 use Rattle.mc_store.specs.declared.placed.Placed.{Placed}
 use Rattle.mc_store.proofs.{AnsweredTurnLemmas.behind_same, CallerLemmas.get_append, ClosedLemmas.stripe_begins, NextTurnLemmas.turn_more, NextTurnLemmas.turns_both}
 use Rattle.mc_store.proofs.{NumberOrderLemmas.get_before, NumberOrderLemmas.get_some}
@@ -143,40 +143,41 @@ get_last (y ∷ ys) x = get_last ys x
 
 -- ---- a command
 
-module _ (config : Config) (number : ℕ) (before after : Sight) (old new : CallerView) (command : Command) (moment : ℕ) (below : number < config.stripes)
-    (same : new.number ≡ old.number) (grows : Grows before after) (all : ArePlaced config (record old { calls = old.calls ++ asked_for command moment ∷ [] }) (Seen before)) where
+module _ (config : Config) (number : ℕ) (before after : PassView) (command : Command) (moment : ℕ) (below : number < config.stripes) (same : after.caller ≡ before.caller)
+    (turns : length (turns_of before.calls) ≡ before.turn) (grows : Grows before.sight after.sight)
+    (all : ArePlaced config (record (caller_of before) { calls = before.calls ++ asked_for command moment ∷ [] }) (Seen before.sight)) where
   abbrev asked : List CallEvent
-  asked = old.calls ++ asked_for command moment ∷ []
+  asked = before.calls ++ asked_for command moment ∷ []
 
   abbrev begun : CallerView
-  begun = record old { calls = asked }
+  begun = record (caller_of before) { calls = asked }
 
-  begun_places : ArePlaced config begun (Seen after)
-  begun_places = placed_sees config begun before after grows all
+  begun_places : ArePlaced config begun (Seen after.sight)
+  begun_places = placed_sees config begun before.sight after.sight grows all
 
-  placed_replied : (reply : Reply) → IsRepliedBy config number before after old.calls new.calls (next_call old) command moment reply → ArePlaced config new (Seen after)
+  placed_replied : (reply : Reply) → IsRepliedBy config number before after command moment reply → ArePlaced config (caller_of after) (Seen after.sight)
   placed_replied reply by =
       let answered = by.replied.answered in
-      let did : Did = answered_did (next_call old) command moment answered.reply answered.room in
+      let did : Did = answered_did (next_who before) command moment answered.reply answered.room in
       let history = by.old.history ++ answered.before in
       let place = by.replied.place in
       let stripe : by.old.site.stripe ≡ number = by.grew.number_is in
-      let noted : new.calls ≡ asked ++ answered_at number place ∷ [] = by.replied.noted ∙ ap (λ (n : ℕ). asked ++ answered_at n place ∷ []) stripe in
-      let turns : length (turns_of asked) ≡ length (turns_of old.calls) + 1 = turns_both old.calls (asked_for command moment ∷ []) in
-      let turn : length (turns_of asked) - 1 ≡ length (turns_of old.calls) = omega (arith, turns) in
-      let seen : Seen after number ≡ history ++ events.Did did ∷ [] = ap stripe_events by.grew.now ∙ (stripe_events-map by.new.history ∙ answered.history_is) in
-      let here : slice_get (Seen after number) place ≡ Some (events.Did did) =
+      let noted : after.calls ≡ asked ++ answered_at number place ∷ [] = by.replied.noted ∙ ap (λ (n : ℕ). asked ++ answered_at n place ∷ []) stripe in
+      let more : length (turns_of asked) ≡ length (turns_of before.calls) + 1 = turns_both before.calls (asked_for command moment ∷ []) in
+      let turn : length (turns_of asked) - 1 ≡ before.turn = omega (arith, more, turns) in
+      let seen : Seen after.sight number ≡ history ++ events.Did did ∷ [] = ap stripe_events by.grew.now ∙ (stripe_events-map by.new.history ∙ answered.history_is) in
+      let here : slice_get (Seen after.sight number) place ≡ Some (events.Did did) =
       ap (λ (h : List StripeEvent). slice_get h place) seen ∙ (ap (slice_get (history ++ events.Did did ∷ [])) answered.place_is ∙ get_last history (events.Did did)) in
-      let there : IsPlacedIn old.number (Seen after) (place_of asked number place) =
-      subst (λ (o : Option StripeEvent). IsSomeAnd o (IsDidBy (record { caller = old.number; turn = length (turns_of asked) - 1 }))) (sym here)
-      (ap (λ (n : ℕ). record { caller = old.number; turn = n }) (sym turn)) in
-      placed_push config begun new (Seen after) (place_of asked number place) same (ap placed_in noted ∙ answer_places asked number place) begun_places (below, there)
+      let there : IsPlacedIn before.caller (Seen after.sight) (place_of asked number place) =
+      subst (λ (o : Option StripeEvent). IsSomeAnd o (IsDidBy (record { caller = before.caller; turn = length (turns_of asked) - 1 }))) (sym here)
+      (ap (λ (n : ℕ). record { caller = before.caller; turn = n }) (sym turn)) in
+      placed_push config begun (caller_of after) (Seen after.sight) (place_of asked number place) same (ap placed_in noted ∙ answer_places asked number place) begun_places (below, there)
 
-  placed_cut : (fault : Fault) → IsCutBy config number before after old.calls new.calls (next_call old) command moment fault → ArePlaced config new (Seen after)
-  placed_cut fault cut = placed_same config begun new (Seen after) same (ap placed_in cut.noted) begun_places
+  placed_cut : (fault : Fault) → IsCutBy config number before after command moment fault → ArePlaced config (caller_of after) (Seen after.sight)
+  placed_cut fault cut = placed_same config begun (caller_of after) (Seen after.sight) same (ap placed_in cut.noted) begun_places
 
-  pub placed_shared : (r : Result Reply Fault) → IfOk r (IsRepliedBy config number before after old.calls new.calls (next_call old) command moment)
-      → IfErr r (IsCutBy config number before after old.calls new.calls (next_call old) command moment) → ArePlaced config new (Seen after)
+  pub placed_shared : (r : Result Reply Fault) → IfOk r (IsRepliedBy config number before after command moment)
+      → IfErr r (IsCutBy config number before after command moment) → ArePlaced config (caller_of after) (Seen after.sight)
   placed_shared (Ok reply) replied cut = placed_replied reply replied
   placed_shared (Err fault) replied cut = placed_cut fault cut
 

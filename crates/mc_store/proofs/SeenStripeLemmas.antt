@@ -6,81 +6,107 @@ use Rattle.atomic_table.specs.Seated.{TableId}
 use Rattle.mc_item.specs.declared.{answer.Site.Site, call_event.CallEvent.CallEvent, command.Command.Command, config.Config.Config, fault.Fault.Fault}
 use Rattle.mc_item.specs.declared.{item.Link.Link, item.Who.Who, reply.Reply.Reply, event.Event.Event, event.Event.TheVariants.Call, stripe_event.Did.Did}
 use Rattle.mc_board.specs.Histories.{Grows, HasSeen, list_at}
-use Rattle.mc_board.specs.declared.rule.Sight.{Sight}
+use Rattle.mc_board.specs.declared.{rule.Sight.Sight, rule.Span.Span}
+use Rattle.mc_board.proofs.PrefixLemmas.{prefix_self}
 use Rattle.mc_evidence.specs.{Locks.StripeKeeps, Seen.classes_seen, Setting.site_in}
 use Rattle.mc_hits.specs.Views.{HandsView, hit_of}
 use Rattle.mc_evidence.proofs.{LockLemmas.stripe_sees_more, SeenLemmas.classes_grow}
-use Rattle.mc_stripe.specs.{StripeCalls.KeepsSite, StripeState.Stripe}
+use Rattle.mc_stripe.specs.{Plan.visible_row, StripeCalls.KeepsSite}
 use Rattle.mc_stripe.specs.declared.trying.Turn.{Turn}
-use Rattle.mc_store.specs.{Held.Ends, Locked.IsLockedStripe, Locked.setting_of, Sides.StripeSide, Sides.stripe_told}
-use Rattle.mc_store.specs.{Calls.IsCutBy, Calls.IsReplied, Calls.IsRepliedBy, Calls.IsSeenGrow, Commands.IsAnswered, Headline.answered_did, Hits.IsOffered, Hits.OffersOne}
+use Rattle.mc_store.specs.{Accounts.Enters, Accounts.IsOfCommand, Held.Ends, Locked.IsLockedStripe, Locked.setting_of, Searches.IsSearchFor, Sides.StripeSide, Sides.stripe_sight, Sides.stripe_told}
+use Rattle.mc_store.specs.{Calls.IsCutBy, Calls.IsReplied, Calls.IsRepliedBy, Calls.IsSeenGrow, Commands.IsAnswered, Commands.IsCut, Headline.answered_did, Hits.IsOffered, Hits.OffersOne}
 use Rattle.mc_store.specs.{Hits.queue_of, Hits.with_offer, Waking.MakesActive, Waking.reply_in, Waking.woken_in}
-use Rattle.mc_store.proofs.LockKeepsLemmas.{site_of_number}
+use Rattle.mc_store.proofs.{AccountLemmas.enters_later, AccountLemmas.whole_shared, LockKeepsLemmas.site_of_number}
 use Rattle.mc_store.specs.declared.replied.Replied.{Replied}
-use Rattle.mc_store.proofs.{EarnedRefusalLemmas.told_sees, FullLemmas.full_grows, SyncedStepLemmas.map_length}
+use Rattle.mc_store.proofs.{EarnedRefusalLemmas.search_grows, EarnedRefusalLemmas.told_sees, FullLemmas.full_grows, SyncedStepLemmas.map_length}
 use Rattle.mc_store.specs.Callers.{HasNoneOf, asked_for, answered_at, turns_of, calls_told, moment_of}
-use Rattle.mc_store.specs.Passes.{CallerView, PassView, HasAsked, HasCalled, caller_of, next_who}
+use Rattle.mc_store.specs.Passes.{CallerView, PassView, HasAsked, HasCalled, caller_of, next_who, pass_of}
 use Rattle.mc_item.specs.declared.call_event.CallEvent.TheVariants.{Answered, Asked, Crawled, Juggled, Limits}
 
--- what a command shares with its pass: how it was answered or broken off, by what the pass had seen before and has seen behind it
-pub record IsShared (config : Config) (number : ℕ) (before after : Sight) (calls calls_new : List CallEvent) (who : Who) (command : Command) (moment : ℕ) (r : Result Reply Fault) : Type 0 where
-  pub replied : IfOk r (IsRepliedBy config number before after calls calls_new who command moment)
-  pub cut : IfErr r (IsCutBy config number before after calls calls_new who command moment)
+-- what a command shares with its pass: how it was answered or broken off, by the pass before it and behind it
+pub record IsShared (config : Config) (number : ℕ) (before after : PassView) (command : Command) (moment : ℕ) (r : Result Reply Fault) : Type 0 where
+  pub replied : IfOk r (IsRepliedBy config number before after command moment)
+  pub cut : IfErr r (IsCutBy config number before after command moment)
 
-module _ {table : TableId} {config : Config} {number : ℕ} {old new : StripeSide} (before : Sight) {after : Sight} (old_kept : IsLockedStripe table config old) (new_kept : IsLockedStripe table config new)
-    (number_is : old.stripe.site.stripe ≡ number) (seen : HasSeen (stripe_told old.stripe.history) before old.lock)
+module _ {table : TableId} {config : Config} {number : ℕ} {old new : StripeSide} (before : PassView) {after : Sight} (old_kept : IsLockedStripe table config old) (new_kept : IsLockedStripe table config new)
+    (number_is : old.stripe.site.stripe ≡ number) (seen : HasSeen (stripe_told old.stripe.history) before.sight old.lock)
     (told : list_at after.seen new.lock ≡ stripe_told new.stripe.history) (grows : Grows new.sight after) where
-  seen_grow : KeepsSite old.stripe new.stripe → IsSeenGrow config number before after old.stripe new.stripe
+  seen_grow : KeepsSite old.stripe new.stripe → IsSeenGrow config number before.sight after old.stripe new.stripe
   seen_grow site =
       let number_new : new.stripe.site.stripe ≡ number = ap (λ (t : Site). t.stripe) site.site ∙ number_is in record {
         made_with = old_kept.made_with;
         number_is = number_is;
         site = site;
-        seen = subst (λ (k : ℕ). IsPrefix (list_at before.seen k) (stripe_told old.stripe.history)) (old_kept.lock_is ∙ number_is) seen;
+        seen = subst (λ (k : ℕ). IsPrefix (list_at before.sight.seen k) (stripe_told old.stripe.history)) (old_kept.lock_is ∙ number_is) seen;
         now = ap (λ (k : ℕ). list_at after.seen k) (sym (new_kept.lock_is ∙ number_new)) ∙ told;
         sound = subst (λ (k : ℕ). StripeKeeps (setting_of config) k new.stripe.history (classes_seen config.stripes (list_at after.seen))) number_new
             (stripe_sees_more (setting_of config) new.stripe.site.stripe new.stripe.history (classes_seen config.stripes (list_at new.sight.seen)) (classes_seen config.stripes (list_at after.seen))
             (classes_grow config.stripes (list_at new.sight.seen) (list_at after.seen) grows.at) new_kept.keeps);
       }
 
+  -- all that the stripe has seen and had, the pass has seen behind the call
+  all_shared : Grows (stripe_sight new) after
+  all_shared = whole_shared new.sight {y = after} new.lock (stripe_told new.stripe.history)
+      (subst (IsPrefix (stripe_told new.stripe.history)) (sym told) (prefix_self (stripe_told new.stripe.history))) (λ at other. grows.at at)
+
+  -- and so all that was entered in the caller's account
+  entered_by : {caller caller_new : CallerView} {command : Command} {turn : Turn} (r : Result Replied Fault) → (ends : Ends config old new caller caller_new command turn r)
+      → turn.who ≡ next_who before → caller.made ≡ before.made → Enters (IsOfCommand config old.stripe command turn.moment ends.stretch) before.turn after before.made caller_new.made
+  entered_by {caller = caller} {caller_new = caller_new} {command = command} {turn = turn} r ends who made =
+      let Suits = IsOfCommand config old.stripe command turn.moment ends.stretch in
+      subst (λ (n : ℕ). Enters Suits n after before.made caller_new.made) (ap (λ (w : Who). w.turn) who)
+      (subst (λ (m : List Span). Enters Suits turn.who.turn after m caller_new.made) made
+      (enters_later Suits turn.who.turn {mid = stripe_sight new} {after = after} caller.made caller_new.made all_shared ends.enters))
+
   -- a command that ended under the lock of its stripe is shared so with its pass
-  pub shared_by : {caller caller_new : CallerView} {command : Command} {turn : Turn} (r : Result Replied Fault) (calls : List CallEvent)
-      → Ends config old.stripe new caller caller_new command turn r → caller.calls ≡ calls ++ asked_for command turn.moment ∷ []
-      → HasNoneOf turn.who old.stripe.history → IsShared config number before after calls caller_new.calls turn.who command turn.moment (reply_in r)
-  shared_by {command = command} {turn = turn} (Ok reply) calls ends asked first =
+  pub shared_by : {caller caller_new : CallerView} {command : Command} {turn : Turn} (r : Result Replied Fault) (hands : HandsView)
+      → Ends config old new caller caller_new command turn r → turn.who ≡ next_who before → caller.calls ≡ before.calls ++ asked_for command turn.moment ∷ [] → caller.made ≡ before.made
+      → HasNoneOf (next_who before) old.stripe.history → IsShared config number before (pass_of caller_new after hands) command turn.moment (reply_in r)
+  shared_by {caller_new = caller_new} {command = command} {turn = turn} (Ok reply) hands ends who asked made first =
       let was = ends.replied.replied_is in
-      let did : Did = record { who = turn.who; command = command; moment = turn.moment; reply = was.answered.reply; room = was.answered.room } in record {
+      let did : Did = record { who = turn.who; command = command; moment = turn.moment; reply = was.answered.reply; room = was.answered.room } in
+      let calls = before.calls ++ asked_for command turn.moment ∷ [] in
+      let need = (visible_row old.stripe command turn.moment).need in
+      let replied : IsReplied config turn.who command turn.moment old.stripe new.stripe after calls caller_new.calls reply.reply = record {
+        place = was.place;
+        answered = was.answered;
+        reply_is = was.reply_is;
+        noted = was.noted ∙ ap (λ (l : List CallEvent). l ++ answered_at old.stripe.site.stripe was.place ∷ []) asked;
+        earned = told_sees config old.stripe.site new.sight after did grows was.earned;
+      } in record {
         replied = record {
           old = old.stripe;
           new = new.stripe;
           grew = seen_grow ends.site;
           first = first;
-          replied = record {
-            place = was.place;
-            answered = was.answered;
-            reply_is = was.reply_is;
-            noted = was.noted ∙ ap (λ (l : List CallEvent). l ++ answered_at old.stripe.site.stripe was.place ∷ []) asked;
-            earned = told_sees config old.stripe.site new.sight after did grows was.earned;
+          replied = subst (λ (w : Who). IsReplied config w command turn.moment old.stripe new.stripe after calls caller_new.calls reply.reply) who replied;
+          account = record {
+            stretch = ends.stretch;
+            enters = entered_by (Ok reply) ends who made;
+            search = subst (λ (w : Who). IsSearchFor config need w turn.moment after ends.stretch) who
+                (search_grows config need turn.who turn.moment new.sight after ends.stretch grows ends.search);
           };
         };
         cut = tt;
       }
-  shared_by {command = command} {turn = turn} (Err fault) calls ends asked first = record {
+  shared_by {command = command} {turn = turn} (Err fault) hands ends who asked made first = record {
     replied = tt;
     cut = record {
       old = old.stripe;
       new = new.stripe;
       grew = seen_grow ends.site;
       first = first;
-      cut = ends.cut;
+      cut = subst (λ (w : Who). IsCut config w command turn.moment old.stripe new.stripe) who ends.cut;
       noted = ends.unnoted ∙ asked;
+      stretch = ends.stretch;
+      account = entered_by (Err fault) ends who made;
       full = λ e. full_grows config old.stripe new.stripe new.sight after command turn.moment grows (ends.full (ap Err e));
     };
   }
 
   -- a hit that it offered is of the item that its event made ACTIVE
   offered_of : (command : Command) (turn : Turn) (hands hands_new : HandsView) (place : ℕ) (answered : IsAnswered config turn.who command turn.moment old.stripe new.stripe place)
-      → IsSeenGrow config number before after old.stripe new.stripe → (link : Link)
+      → IsSeenGrow config number before.sight after old.stripe new.stripe → (link : Link)
       → MakesActive old.stripe.site (old.stripe.history ++ answered.before) (answered_did turn.who command turn.moment answered.reply answered.room) link
       → hands_new ≡ with_offer hands (queue_of link.class) (hit_of turn.who.caller turn.who.turn link.number) → IsOffered config number after turn.who command turn.moment hands hands_new
   offered_of command turn hands hands_new place answered grew link woke is = record {
@@ -95,7 +121,7 @@ module _ {table : TableId} {config : Config} {number : ℕ} {old new : StripeSid
     hands = is;
   }
 
-  pub offered_by : {caller caller_new : CallerView} {command : Command} {turn : Turn} (r : Result Replied Fault) → Ends config old.stripe new caller caller_new command turn r
+  pub offered_by : {caller caller_new : CallerView} {command : Command} {turn : Turn} (r : Result Replied Fault) → Ends config old new caller caller_new command turn r
       → (hands hands_new : HandsView) → hands.caller ≡ turn.who.caller → OffersOne turn.who.turn (woken_in r) hands hands_new
       → (hands_new ≡ hands) ⊎ IsOffered config number after turn.who command turn.moment hands hands_new
   offered_by r ends hands hands_new mine (inl same) = inl same
@@ -136,13 +162,13 @@ turns_answered (Answered a ∷ calls) stripe place = turns_answered calls stripe
 turns_answered (Limits l ∷ calls) stripe place = ap (λ (es : List CallEvent). Limits l ∷ es) (turns_answered calls stripe place)
 
 -- a command adds no turn to its caller's history once it was asked for
-pub turns_kept : {config : Config} {s : Stripe} {own_new : StripeSide} {caller caller_new : CallerView} {command : Command} {turn : Turn} (r : Result Replied Fault)
-    → Ends config s own_new caller caller_new command turn r
+pub turns_kept : {config : Config} {own own_new : StripeSide} {caller caller_new : CallerView} {command : Command} {turn : Turn} (r : Result Replied Fault)
+    → Ends config own own_new caller caller_new command turn r
     → turns_of caller_new.calls ≡ turns_of caller.calls
-turns_kept {s = s} {caller = caller} {caller_new = caller_new} (Ok reply) ends =
+turns_kept {own = own} {caller = caller} {caller_new = caller_new} (Ok reply) ends =
     let is = ends.replied.replied_is.noted in
     let place = ends.replied.replied_is.place in
-    ap turns_of is ∙ turns_answered caller.calls s.site.stripe place
+    ap turns_of is ∙ turns_answered caller.calls own.stripe.site.stripe place
 turns_kept (Err fault) ends = ap turns_of ends.unnoted
 
 -- a call is one event, and takes one turn

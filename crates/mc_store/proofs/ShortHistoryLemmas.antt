@@ -1,7 +1,7 @@
 -- Short histories; and small laws of a step: which fault was answered, what a stripe was made with, where a refusal stands.
-use Rattle.std.proofs.Common.{Result, Ok, Err, refl, sym, ap, ◌∙◌, arith, suc}
-use Rattle.std.specs.Prelude.{ℕ, ◌≡◌, ◌<◌, ◌+◌, ◌++◌, List, [], ◌∷◌, Some, length, IsErrAnd, slice_get}
-use Rattle.mc_item.specs.declared.{answer.Site.Site, config.Config.Config, fault.Fault.Fault, fault.Fault.TheVariants.HistoryFull, item.Who.Who}
+use Rattle.std.proofs.Common.{Result, Ok, Err, refl, sym, ap, ◌∙◌, inl, inr, arith, suc}
+use Rattle.std.specs.Prelude.{ℕ, ◌≡◌, ◌<◌, ◌+◌, ◌⊎◌, ◌++◌, List, [], ◌∷◌, Some, length, IsErrAnd, slice_get}
+use Rattle.mc_item.specs.declared.{answer.Site.Site, config.Config.Config, fault.Fault.Fault, fault.Fault.TheVariants.HistoryFull, item.ClassNo.ClassNo, item.Who.Who}
 use Rattle.mc_item.specs.declared.{class_event.ClassEvent.ClassEvent, event.Event.Event}
 use Rattle.mc_segment.specs.{ClassCalls.Makes, ClassCalls.refused_event, ClassState.ClassView}
 use Rattle.mc_stripe.specs.{StripeCalls.KeepsSite, StripeState.Stripe}
@@ -11,7 +11,7 @@ use Rattle.atomic_table.specs.Seated.{TableId}
 use Rattle.mc_board.specs.Histories.{Grows, list_at}
 use Rattle.mc_board.specs.declared.rule.Sight.{Sight}
 use Rattle.mc_board.proofs.PrefixLemmas.{prefix_length}
-use Rattle.mc_store.specs.{Locked.IsHeldClass, Locked.class_lock, Serving.HasSeenShort, Full.LacksPlaces, Sides.ClassSide, Sides.class_told}
+use Rattle.mc_store.specs.{Locked.IsHeldClass, Locked.class_lock, Locked.locks_for, Serving.HasSeenShort, Serving.IsShortFor, Full.LacksPlaces, Sides.ClassSide, Sides.class_told}
 
 err_same : {T : Type 0} (x y : Fault) → ◌≡◌ {A = Result T Fault} (Err x) (Err y) → x ≡ y
 err_same x y h = cc
@@ -54,8 +54,9 @@ short_class table config side sight events kept told short = record {
 }
 
 -- what was seen short stays so as more is seen
-pub short_grows : (config : Config) (a b : Sight) → Grows a b → HasSeenShort config a → HasSeenShort config b
+pub short_grows : (config : Config) (a b : Sight) {class : ClassNo} → Grows a b → IsShortFor config class a → IsShortFor config class b
 short_grows config a b grows seen = record {
+  is = seen.is;
   lock = seen.lock;
   of = seen.of;
   short =
@@ -63,3 +64,14 @@ short_grows config a b grows seen = record {
       let was = seen.short in
       omega (arith, longer, was);
 }
+
+-- what is short for a class is one of the store's
+pub short_lock : (config : Config) (sight : Sight) {class : ClassNo} → IsShortFor config class sight → HasSeenShort config sight
+short_lock config sight {class = class} seen = record { lock = seen.lock; of = below seen.of; short = seen.short }
+  where
+    below : (seen.lock ≡ class_lock config class) ⊎ (seen.lock < config.stripes) → seen.lock < locks_for config
+    below (inl same) =
+        let first = seen.is.0 in
+        let last = seen.is.1 in
+        omega (arith, first, last, same)
+    below (inr stripe) = omega (arith, stripe)

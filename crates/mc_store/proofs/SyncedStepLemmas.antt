@@ -20,9 +20,9 @@ use Rattle.mc_pull.specs.{Agreeing.AgreeNow, Agreeing.KeepsAgreement, Lone.Strip
 use Rattle.mc_pull.specs.{Settled.done_class_events, Settled.done_stripe_events, Sight.KeepsSight, Walker.Walker}
 use Rattle.mc_pull.specs.Growth as classes
 use Rattle.mc_pull.specs.declared.judge.Done.{Done}
-use Rattle.mc_store.specs.{Locked.IsHeldClass, Locked.IsLockedStripe, Locked.class_lock, Locked.setting_of, Locked.HasBegun, Serving.HasSeenShort}
-use Rattle.mc_store.specs.{Full.LacksPlaces, Serving.MayFailSeen, Serving.class_side, Sides.ClassSide, Sides.StripeSide, Sides.class_told, Sides.stripe_told}
-use Rattle.mc_store.proofs.CallerLemmas.{called_walked}
+use Rattle.mc_store.specs.{Locked.IsHeldClass, Locked.IsLockedStripe, Locked.class_lock, Locked.setting_of, Locked.HasBegun, Serving.IsShortFor}
+use Rattle.mc_store.specs.{Full.LacksPlaces, Serving.MayFailSeen, Serving.class_side, Sides.ClassSide, Sides.StripeSide, Sides.class_told, Sides.stripe_sight, Sides.stripe_told}
+use Rattle.mc_store.proofs.{AccountLemmas.whole_grows, CallerLemmas.called_walked}
 use Rattle.mc_store.proofs.LockKeepsLemmas.{class_after, class_sees, heard_class, heard_stripe, met, stripe_after, stripe_sees}
 
 -- what grew is told as more
@@ -92,12 +92,9 @@ short_of config sight lock class history at is list lack =
     ap (λ (n : ℕ). length (list_at sight.seen n)) (sym at) ∙ (ap (λ (t : List Event). length t) list ∙ map_length events.Class history) in
     record { is = is; short = omega (arith, long, lack) }
 
--- a class's short history is one of the store's
-pub any_short : (config : Config) (sight : Sight) {class : ClassNo} → LacksPlaces config sight class 2 → HasSeenShort config sight
-any_short config sight {class = class} lacks =
-    let first = lacks.is.0 in
-    let last = lacks.is.1 in
-    record { lock = class_lock config class; of = omega (arith, first, last); short = lacks.short }
+-- a class's short history is short for it
+pub any_short : (config : Config) (sight : Sight) {class : ClassNo} → LacksPlaces config sight class 2 → IsShortFor config class sight
+any_short config sight {class = class} lacks = record { is = lacks.is; lock = class_lock config class; of = inl refl; short = lacks.short }
 
 -- a stripe and a class that agreed stepped together, and were told of each other
 module _ (table : TableId) (config : Config) (own : StripeSide) (lent : ClassSide) (own_kept : IsLockedStripe table config own) (lent_kept : IsHeldClass table config lent) (agree : AgreeNow lent.class own.stripe)
@@ -147,7 +144,8 @@ module _ (table : TableId) (config : Config) (own : StripeSide) (lent : ClassSid
       let long : length (list_at seen.seen own.lock) ≡ length s.history = ap (λ (t : List Event). length t) list ∙ map_length events.Stripe s.history in
       let lock = own_kept.lock_is in
       let of = own_kept.of in
-      inr (record { lock = own.lock; of = omega (arith, lock, of); short = omega (arith, long, limit, full) })
+      let is : IsClass (setting_of config) c.number = subst (λ (n : ClassNo). IsClass (setting_of config) n) (sym number_is) lent_kept.is in
+      inr (record { is = is; lock = own.lock; of = inr (omega (arith, lock, of)); short = omega (arith, long, limit, full) })
   fails_seen NoMemory may = tt
 
   -- and the stripe too
@@ -206,6 +204,17 @@ module _ (table : TableId) (config : Config) (own : StripeSide) (lent : ClassSid
   lent_last_is = told_of ∙ (ap (λ (x : ClassSide). record x { sight = with_seen lent_new.sight own_new.lock (stripe_told own_new.stripe.history) }) same
       ∙ (ap (λ (o : OwnerView). record { board = o.board; lock = o.lock; class = c_new; sight = with_seen lent_new.sight own_new.lock (stripe_told own_new.stripe.history) }) class_up
       ∙ ap (λ (t : Sight). record { board = owner.board; lock = owner.lock; class = c_new; sight = t }) (sym (ap (λ (x : ClassSide). x.sight) told_of))))
+
+  -- what the stripe has seen then, with all of its own history
+  pub sight_paired : stripe_sight own_last ≡ with_seen (with_seen own_seen.sight owner.lock (class_told c_new.history)) own_owner.lock (stripe_told s_new.history)
+  sight_paired = ap (λ (x : StripeSide). stripe_sight x) own_last_is ∙ ap (λ (t : Sight). with_seen t own_owner.lock (stripe_told s_new.history)) pair_told_is
+
+  -- is no less than before
+  pub grows_paired : IsPrefix (stripe_told s.history) (stripe_told s_new.history) → Grows (stripe_sight own) (stripe_sight own_last)
+  grows_paired longer =
+      subst (λ (x : StripeSide). Grows (stripe_sight x) (stripe_sight own_last)) own_is
+      (subst (λ (x : StripeSide). Grows (stripe_sight (stripe_side own_owner own_seen s)) (stripe_sight x)) (sym own_last_is)
+      (whole_grows own_owner.lock (stripe_told s.history) (stripe_told s_new.history) longer more))
 
   -- the stripe is as its lock keeps it
   pub stripe_paired : (w : Walker) → HasBegun config own_seen.sight w.who w.moment → StripeGrows w s s_new → IsLockedStripe table config own_last

@@ -1,5 +1,5 @@
 -- One try of a command under locks, as a step that made it or made nothing.
-use Rattle.std.proofs.Common.{◌≡◌, ◌++◌, length, ℕ, List, [], ◌∷◌, true, false, Result, Ok, Err, refl, sym, ap, ◌∙◌, subst, inl, inr}
+use Rattle.std.proofs.Common.{◌≡◌, ℕ, List, [], ◌∷◌, true, false, Result, Ok, Err, refl, sym, ap, ◌∙◌, subst, inl, inr}
 use Rattle.std.specs.Prelude.{Option, Some, None, IfOk, IfSome, IsSomeAnd, OnErr, OnOk}
 use Rattle.mc_item.specs.Command.{key_of}
 use Rattle.mc_item.specs.declared.{answer.Need.Need, command.Command.Command, config.Config.Config, fault.Fault.Fault}
@@ -14,7 +14,7 @@ use Rattle.mc_pull.specs.declared.{attempting.Tried.Tried, attempting.Tried.TheV
 use Rattle.mc_pull.specs.{Agreeing.KeepsAgreements, Attempt.GivesHome, Attempt.IsAny, Attempt.IsOffered, Attempt.IsTriedBy, Attempt.OffersHome, Perform.Call}
 use Rattle.mc_pull.specs.{Perform.answer_to, Perform.call, Performed.IsPerformed, Performed.IsUntouched, Sight.KeepsSights}
 use Rattle.mc_pull.proofs.PerformedLemmas.{untouched_kept, untouched_seen}
-use Rattle.mc_store.specs.{Performing.IsOneOf, Performing.IsRefusedIn, Passes.CallerView, Sides.ClassSide, Trying.IsTriedUnder}
+use Rattle.mc_store.specs.{Performing.IsOneOf, Performing.IsRefusedIn, Passes.CallerView, Sides.ClassSide, Sides.StripeSide, Trying.IsTriedUnder}
 use Rattle.mc_store.specs.Trying.{Stay, StillTries, is_made, noted_on}
 
 -- what a try came to, where only that it made its command is asked
@@ -104,17 +104,21 @@ module _ (config : Config) (s s_new : Stripe) (made : Command) (turn : Turn) (gi
   woken_at room fate is None told = tt
   woken_at room fate is (Some link) told = (told_just_woken s.site (cache_now s).versions (item_of s made) made turn.moment room fate link is).0 (sym told)
 
-  -- what it came to under the locks
-  module _ (caller caller_new : CallerView) (cs ds : List ClassSide) where
-    pub under_tried : (t : Result Tried Fault) → TriedBy t → (is_made t ≡ true → StillTries config made turn (noted_on s caller) caller_new)
-        → (is_made t ≡ false → StillTries config made turn caller caller_new) → (IsUntouched s s_new vs ws → Stay cs ds)
-        → IfOk t (IsTriedUnder config s s_new caller caller_new made turn given cs ds)
-    under_tried (Ok (Made reply woken)) tried noted unnoted stay = record {
-      room = tried.room;
-      fate = tried.fate;
-      uses = tried.uses;
-      made_is = record { reply_is = tried.reply_is; woken = woken_at tried.room tried.fate tried.uses.fate_is woken tried.woken_is; history_is = tried.performed.stripe };
-      noted = noted refl;
-    }
-    under_tried (Ok (Wants want)) tried noted unnoted stay = (tried.0.stripe, unnoted refl, stay tried.0, tried.1)
-    under_tried (Err fault) tried noted unnoted stay = tt
+-- what a try came to under the locks
+module _ (config : Config) (own own_new : StripeSide) (made : Command) (turn : Turn) (given : Given) (vs ws : List ClassView) (caller caller_new : CallerView) (cs ds : List ClassSide) where
+  pub under_tried : (t : Result Tried Fault) → IfOk t (IsTriedBy config own.stripe own_new.stripe made turn given vs ws)
+      → (is_made t ≡ true → StillTries config turn own own_new (noted_on own.stripe caller) caller_new) → (is_made t ≡ false → StillTries config turn own own_new caller caller_new)
+      → (IsUntouched own.stripe own_new.stripe vs ws → Stay cs ds) → IfOk t (IsTriedUnder config own own_new caller caller_new made turn given cs ds)
+  under_tried (Ok (Made reply woken)) tried noted unnoted stay = record {
+    room = tried.room;
+    fate = tried.fate;
+    uses = tried.uses;
+    made_is = record {
+      reply_is = tried.reply_is;
+      woken = woken_at config own.stripe own_new.stripe made turn given vs ws tried.room tried.fate tried.uses.fate_is woken tried.woken_is;
+      history_is = tried.performed.stripe;
+    };
+    noted = noted refl;
+  }
+  under_tried (Ok (Wants want)) tried noted unnoted stay = (tried.0.stripe, unnoted refl, stay tried.0, tried.1)
+  under_tried (Err fault) tried noted unnoted stay = tt

@@ -1,31 +1,82 @@
--- What a call enters in its caller's account: only events of its own turn, on the locks that it may work on (own).
-use Rattle.std.specs.Prelude.{◌≡◌, ◌<◌, ◌≤◌, ◌++◌, ◌⊎◌, ℕ, List, Some, slice_get}
-use Rattle.mc_item.specs.declared.{command.Command.Command, config.Config.Config, item.ClassNo.ClassNo}
-use Rattle.mc_board.specs.declared.rule.Span.{Span}
-use Rattle.mc_pull.specs.Suited.{MayNeedChunk}
+-- What a call enters in its caller's account: events of its own turn, which were seen, where the call may make them (own).
+use Rattle.std.specs.Prelude.{◌≡◌, ◌<◌, ◌≤◌, ◌++◌, ◌⊎◌, ℕ, List, Some, IsSomeAnd, length, slice_get}
+use Rattle.mc_item.specs.declared.{answer.Need.Need, class_event.ClassEvent.ClassEvent, command.Command.Command, config.Config.Config, event.Event.Event}
+use Rattle.mc_item.specs.declared.{event.Event.TheVariants.Call, event.Event.TheVariants.Class, event.Event.TheVariants.Stripe, item.ClassNo.ClassNo}
+use Rattle.mc_item.specs.declared.answer.Need.TheVariants as needs
+use Rattle.mc_item.specs.declared.class_event.ClassEvent.TheVariants as events
+use Rattle.mc_board.specs.{Accounts.IsEntered, Histories.Grows, Histories.list_at}
+use Rattle.mc_board.specs.declared.{rule.Sight.Sight, rule.Span.Span}
+use Rattle.mc_segment.specs.ClassState.{ClassView}
+use Rattle.mc_stripe.specs.Plan.{visible_row}
+use Rattle.mc_stripe.specs.StripeState as states
 use Rattle.mc_store.specs.{Locked.class_lock, Locked.locks_for, Passes.CallerView}
 
--- a caller's account gained only events of this turn, on locks like these
-pub record Enters (Suits : ℕ → Type 0) (turn : ℕ) (made made_new : List Span) : Type 0 where
+-- a caller's account gained only events of this turn; each was seen by now, and is one that the call may make at its place
+pub record Enters (Suits : (lock place : ℕ) → Event → Type 0) (turn : ℕ) (after : Sight) (made made_new : List Span) : Type 0 where
   pub spans : List Span
   pub made_is : made_new ≡ made ++ spans
-  pub each : (i : ℕ) (span : Span) → slice_get spans i ≡ Some span → (span.turn ≡ turn) × Suits span.lock
+  pub turns : (i : ℕ) (span : Span) → slice_get spans i ≡ Some span → span.turn ≡ turn
+  pub each : (lock place : ℕ) → IsEntered spans turn lock place → IsSomeAnd (slice_get (list_at after.seen lock) place) (Suits lock place)
 
 -- the lock is a class's
 abbrev pub IsClassLock : Config → ℕ → Type 0
 IsClassLock config lock = (config.stripes ≤ lock) × (lock < locks_for config)
 
--- the lock is the class's in which a walk is, or a stripe's, at which it looks
-abbrev pub IsOfWalk : Config → ClassNo → ℕ → Type 0
-IsOfWalk config class lock = (lock ≡ class_lock config class) ⊎ (lock < config.stripes)
+-- a class's event follows its item: the entry came, left or was reclaimed as the item did
+abbrev pub FollowsItem : ClassEvent → Type 0
+FollowsItem (events.Linked e) = Unit {0}
+FollowsItem (events.Unlinked e) = Unit {0}
+FollowsItem (events.Reclaimed e) = Unit {0}
+FollowsItem (events.Shifted e) = ⊥
+FollowsItem (events.Evicted e) = ⊥
+FollowsItem (events.Surveyed e) = ⊥
+FollowsItem (events.Refused e) = ⊥
+FollowsItem (events.Limited e) = ⊥
 
--- the lock is that of a command's stripe or a class's, or if the command may need a chunk, another stripe's
-abbrev pub IsOfCommand : Config → ℕ → Command → ℕ → Type 0
-IsOfCommand config number command lock = (lock ≡ number) ⊎ IsClassLock config lock ⊎ (MayNeedChunk command × (lock < config.stripes))
+-- the event is of a class, and follows its item
+abbrev pub IsFollowing : Event → Type 0
+IsFollowing (Class e) = FollowsItem e
+IsFollowing (Stripe e) = ⊥
+IsFollowing (Call e) = ⊥
 
--- a call of this caller goes on: its number and calls are as they were, and its account gained only events of this turn, on locks
--- like these
-pub record StillCalls (Suits : ℕ → Type 0) (turn : ℕ) (caller caller_new : CallerView) : Type 0 where
+-- what a walk in a class may make: events of the class, and of the stripes at which it looks
+abbrev pub IsOfWalk : Config → ClassNo → (lock place : ℕ) → Event → Type 0
+IsOfWalk config class lock place event = (lock ≡ class_lock config class) ⊎ (lock < config.stripes)
+
+-- places of a class's history, from one up to another
+pub record Stretch : Type 0 where
+  pub from : ℕ
+  pub until : ℕ
+
+-- the places that a class's history gained
+abbrev pub stretch_of : (c c_new : ClassView) → Stretch
+stretch_of c c_new = record { from = length c.history; until = length c_new.history }
+
+-- what a search in a class may make: events of the class in this stretch of its history, and of the stripes at which it looks
+abbrev pub IsOfStretch : Config → ClassNo → Stretch → (lock place : ℕ) → Event → Type 0
+IsOfStretch config class stretch lock place event =
+    ((lock ≡ class_lock config class) × ((stretch.from ≤ place) × (place < stretch.until))) ⊎ (lock < config.stripes)
+
+-- what a command that needs no search may make: events of its stripe, and of classes only those that follow their items
+abbrev pub IsOfTry : Config → ℕ → (lock place : ℕ) → Event → Type 0
+IsOfTry config number lock place event = (lock ≡ number) ⊎ (IsClassLock config lock × IsFollowing event)
+
+-- what a search for a chunk may make: if a new chunk of a class is needed, what a search in this stretch may make, and else nothing
+abbrev pub IsOfSearch : Config → Need → Stretch → (lock place : ℕ) → Event → Type 0
+IsOfSearch config (needs.Fresh class) stretch lock place event = IsOfStretch config class stretch lock place event
+IsOfSearch config needs.Nothing stretch lock place event = ⊥
+IsOfSearch config needs.Same stretch lock place event = ⊥
+IsOfSearch config needs.TooLarge stretch lock place event = ⊥
+
+-- what a command on a stripe may make: what it may make without a search, and what a search in this stretch for its chunk may make
+abbrev pub IsOfCommand : Config → states.Stripe → Command → ℕ → Stretch → (lock place : ℕ) → Event → Type 0
+IsOfCommand config s command moment stretch lock place event =
+    IsOfTry config s.site.stripe lock place event ⊎ IsOfSearch config (visible_row s command moment).need stretch lock place event
+
+-- a call of this caller goes on: its number and calls are as they were, what was seen only grew, and its account gained only such
+-- events
+pub record StillCalls (Suits : (lock place : ℕ) → Event → Type 0) (turn : ℕ) (before after : Sight) (caller caller_new : CallerView) : Type 0 where
   pub number_is : caller_new.number ≡ caller.number
   pub calls_are : caller_new.calls ≡ caller.calls
-  pub enters : Enters Suits turn caller.made caller_new.made
+  pub sees : Grows before after
+  pub enters : Enters Suits turn after caller.made caller_new.made

@@ -18,12 +18,16 @@ use Rattle.mc_stripe.specs.{StripeState.Stripe, StripeCalls.KeepsSite}
 use Rattle.mc_pull.specs.{Juggle.IsJuggle, Question.IsClassOf, Question.IsStripeOf, Rounds.rounds}
 use Rattle.mc_pull.specs.declared.looking.Answer.{Answer}
 use Rattle.mc_store.specs.{
+  Accounts.Enters,
+  Accounts.IsOfCommand,
+  Accounts.Stretch,
   Commands.IsAnswered,
   Commands.IsCut,
   Callers.HasNoneOf,
   Callers.answered_at,
   Callers.asked_for,
   Earned.IsEarned,
+  Searches.EntersOnce,
   Full.IsFullFor,
   Locked.class_lock,
 }
@@ -62,26 +66,29 @@ pub record IsSeenGrow (config : Config) (number : ℕ) (before after : Sight) (s
   pub sound : StripeKeeps (setting_of config) number s_new.history (classes_seen config.stripes (list_at after.seen))
 
 -- a command was answered with this reply at one point of its stripe's growing history, after all that the pass had seen and what
--- other calls made; its caller's history gains two events, the call and the place of the answer
-pub record IsRepliedBy (config : Config) (number : ℕ) (before after : Sight) (calls calls_new : List CallEvent) (who : Who) (command : Command) (moment : ℕ)
-    (reply : Reply) : Type 0 where
+-- other calls made; its caller's history gains two events, the call and the place of the answer, and its account only what the
+-- command may make, with one search at most
+pub record IsRepliedBy (config : Config) (number : ℕ) (before after : PassView) (command : Command) (moment : ℕ) (reply : Reply) : Type 0 where
   pub old : Stripe
   pub new : Stripe
-  pub grew : IsSeenGrow config number before after old new
-  pub first : HasNoneOf who old.history
-  pub replied : IsReplied config who command moment old new after (calls ++ asked_for command moment ∷ []) calls_new reply
+  pub grew : IsSeenGrow config number before.sight after.sight old new
+  pub first : HasNoneOf (next_who before) old.history
+  pub replied : IsReplied config (next_who before) command moment old new after.sight (before.calls ++ asked_for command moment ∷ []) after.calls reply
+  pub account : EntersOnce config old command (next_who before) moment after.sight before.made after.made
 
 -- a command was broken off by this fault: after what the pass had seen and what other calls made, its stripe's history gains at
--- most what leads up to it, and its caller's history gains just the call; `HistoryFull` means that a history lacks places for it
-pub record IsCutBy (config : Config) (number : ℕ) (before after : Sight) (calls calls_new : List CallEvent) (who : Who) (command : Command) (moment : ℕ)
-    (fault : Fault) : Type 0 where
+-- most what leads up to it, its caller's history just the call, and its account only what the command may make; `HistoryFull`
+-- means that a history lacks places for it
+pub record IsCutBy (config : Config) (number : ℕ) (before after : PassView) (command : Command) (moment : ℕ) (fault : Fault) : Type 0 where
   pub old : Stripe
   pub new : Stripe
-  pub grew : IsSeenGrow config number before after old new
-  pub first : HasNoneOf who old.history
-  pub cut : IsCut config who command moment old new
-  pub noted : calls_new ≡ calls ++ asked_for command moment ∷ []
-  pub full : fault ≡ HistoryFull → IsFullFor config old new after command moment
+  pub grew : IsSeenGrow config number before.sight after.sight old new
+  pub first : HasNoneOf (next_who before) old.history
+  pub cut : IsCut config (next_who before) command moment old new
+  pub noted : after.calls ≡ before.calls ++ asked_for command moment ∷ []
+  pub stretch : Stretch
+  pub account : Enters (IsOfCommand config old command moment stretch) before.turn after.sight before.made after.made
+  pub full : fault ≡ HistoryFull → IsFullFor config old new after.sight command moment
 
 -- a class's history grew in a call, from that of `c` to this list: what the pass had seen is a beginning of the first, and now it
 -- has seen all of the second; this is lawful, and each event's partner is in what the pass has seen of the stripes

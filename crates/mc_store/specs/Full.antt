@@ -12,7 +12,7 @@ use Rattle.mc_board.specs.Histories.{list_at}
 use Rattle.mc_board.specs.declared.rule.Sight.{Sight}
 use Rattle.mc_segment.specs.ClassState.{chunks_for}
 use Rattle.mc_stripe.specs.{Plan.dead_link, Plan.fate_of, Plan.visible_row, StripeState.Stripe, StripeState.cache_now, Trying.item_of, Wanting.changes_at}
-use Rattle.mc_store.specs.{Locked.class_lock, Locked.setting_of, Serving.HasSeenShort, Sides.class_told}
+use Rattle.mc_store.specs.{Locked.class_lock, Locked.setting_of, Serving.IsShortFor, Sides.class_told}
 
 -- the store has this class, and by what was seen of it its history lacks places for so many more events
 pub record LacksPlaces (config : Config) (sight : Sight) (class : ClassNo) (events : ℕ) : Type 0 where
@@ -49,16 +49,17 @@ pub record HasSeenFull (config : Config) (sight : Sight) (class : ClassNo) : Typ
   pub seen : IsPrefix (class_told before) (list_at sight.seen (class_lock config class))
   pub full : IsFull (chunks_for config class) before
 
--- a command needs a chunk of a class that was full, and a history has fewer than the two places that each step of a search takes
-pub record LacksSearch (config : Config) (s : Stripe) (sight : Sight) (command : Command) (moment : ℕ) : Type 0 where
+-- a command needs a chunk of a class that was full, and this class or a stripe has fewer than the two places that each step of a
+-- search takes, or the history of a class lacks places for the entries that come and leave after it
+pub record LacksSearch (config : Config) (s s_new : Stripe) (sight : Sight) (command : Command) (moment : ℕ) : Type 0 where
   pub class : ClassNo
   pub fresh : (visible_row s command moment).need ≡ needs.Fresh class
   pub full : HasSeenFull config sight class
-  pub short : HasSeenShort config sight
+  pub short : IsShortFor config class sight ⊎ LacksEntries config s_new sight command moment
 
 -- a history is too full for a command on this stripe: the stripe's has no place, or there are too few for the removal of a dead
 -- item, for the entries that come and leave, or for a search
 abbrev pub IsFullFor : Config → (s s_new : Stripe) → Sight → Command → ℕ → Type 0
 IsFullFor config s s_new sight command moment =
     (s_new.limit ≤ length s_new.history)
-    ⊎ (LacksBurial config s s_new sight command moment ⊎ (LacksEntries config s sight command moment ⊎ LacksSearch config s sight command moment))
+    ⊎ (LacksBurial config s s_new sight command moment ⊎ (LacksEntries config s sight command moment ⊎ LacksSearch config s s_new sight command moment))

@@ -1,5 +1,5 @@
 -- The classes that a command has locked, and one try on them (own).
-use Rattle.std.specs.Prelude.{ℕ, ◌≡◌, ◌<◌, ◌≤◌, ◌+◌, ◌^◌, ◌++◌, List, Option, Some, None, IfSome, Result, IfOk, OnErr, IsErrOf, length}
+use Rattle.std.specs.Prelude.{ℕ, ◌≡◌, ◌<◌, ◌≤◌, ◌+◌, ◌^◌, ◌++◌, List, Option, Some, None, IfSome, Result, IfOk, OnOk, OnErr, IsErrOf, length}
 use Rattle.std.specs.{Sync.Mutex.mutex_guard_value, declared.sync.MutexGuard.MutexGuard}
 use Rattle.mc_item.specs.{Command.key_of, Measure.stripe_of, Stripe.IsAlive}
 use Rattle.mc_item.specs.declared.answer.Need.TheVariants as needs
@@ -7,15 +7,16 @@ use Rattle.mc_item.specs.declared.{command.Command.Command, config.Config.Config
 use Rattle.mc_item.specs.declared.{reply.Room.Room, stripe_event.StripeEvent.StripeEvent}
 use Rattle.mc_rule.specs.Lists.{IsFull}
 use Rattle.mc_segment.specs.ClassState.{ClassView}
+use Rattle.mc_board.specs.Histories.{Grows}
 use Rattle.mc_board.specs.declared.rule.Sight.{Sight}
 use Rattle.mc_stripe.specs.{StripeCalls.KeepsSite, StripeState.Stripe, StripeState.cache_now, Trying.item_of, Trying.row_at, Wanting.Holds, Wanting.IsWanting}
-use Rattle.mc_stripe.specs.{Wanting.classes_for}
+use Rattle.mc_stripe.specs.{Plan.visible_row, Wanting.classes_for}
 use Rattle.mc_stripe.specs.declared.{wanting.Given.Given, wanting.Want.Want, trying.Turn.Turn}
 use Rattle.mc_stripe.specs.declared.wanting.Want.TheVariants as wants
 use Rattle.mc_pull.specs.declared.attempting.Tried.{Tried}
 use Rattle.mc_pull.specs.declared.attempting.Tried.TheVariants as tried
 use Rattle.mc_pull.specs.{Lone.AreMadeBy, Perform.call}
-use Rattle.mc_store.specs.Accounts.{Enters, IsOfCommand}
+use Rattle.mc_store.specs.{Accounts.Enters, Accounts.IsOfCommand, Accounts.Stretch, Searches.IsSearchFor}
 use Rattle.mc_store.specs.{Calls.IsRepliedAs, Commands.IsCut, Commands.walker_in, Earned.HasGivenUp, Earned.IsEarnedAt, Earned.IsEarnedIn}
 use Rattle.mc_store.specs.{
   Full.HasSeenFull,
@@ -24,9 +25,9 @@ use Rattle.mc_store.specs.{
   Passes.CallerView,
   Passes.HasAsked,
   Performing.IsMadeOnStripe,
-  Serving.HasSeenShort,
+  Serving.IsShortFor,
 }
-use Rattle.mc_store.specs.{Sides.ClassSide, Sides.StripeSide, Trying.StillTries, Trying.noted_on}
+use Rattle.mc_store.specs.{Sides.ClassSide, Sides.StripeSide, Sides.stripe_sight, Trying.StillTries, Trying.noted_on}
 use Rattle.mc_store.specs.declared.replied.Replied.{Replied}
 
 -- the number of a class
@@ -58,7 +59,7 @@ pub record IsStillFull (config : Config) (sight : Sight) (refused : Option ℕ) 
   pub history_is : v_new.history ≡ v.history
   pub number_is : v_new.number ≡ v.number
   pub seen : HasSeenFull config sight v_new.number
-  pub short : v_new.max_events < length v_new.history + 2 → HasSeenShort config sight
+  pub short : v_new.max_events < length v_new.history + 2 → IsShortFor config v_new.number sight
 
 -- a command needs a new chunk of this class, and needs no other class than this and the one for its key's item
 pub record WantsChunk (class : ClassNo) (other : Option ClassNo) (s : Stripe) (command : Command) (moment : ℕ) : Type 0 where
@@ -72,13 +73,13 @@ IsRefusedAt config s turn key v refused =
 
 -- a command whose item isn't dead was made in a room, earned if it is a refusal, and its caller has noted the answer's place, and
 -- entered its events
-pub record IsMadeIn (config : Config) (s : Stripe) (own_new : StripeSide) (caller caller_new : CallerView) (made : Command) (turn : Turn)
+pub record IsMadeIn (config : Config) (own own_new : StripeSide) (caller caller_new : CallerView) (made : Command) (turn : Turn)
     (replied : Replied) : Type 0 where
-  pub alive : IsAlive (item_of s made) turn.moment
+  pub alive : IsAlive (item_of own.stripe made) turn.moment
   pub room : Room
-  pub made_is : IsMadeOnStripe s own_new.stripe (call turn.who made turn.moment room) replied
-  pub noted : StillTries config made turn (noted_on s caller) caller_new
-  pub earned : IsEarnedIn config s.site.stripe turn.who turn.moment (key_of made) own_new.sight room
+  pub made_is : IsMadeOnStripe own.stripe own_new.stripe (call turn.who made turn.moment room) replied
+  pub noted : StillTries config turn own own_new (noted_on own.stripe caller) caller_new
+  pub earned : IsEarnedIn config own.stripe.site.stripe turn.who turn.moment (key_of made) own_new.sight room
 
 -- what a command is given that has locked no class
 abbrev pub nothing : Given
@@ -98,13 +99,13 @@ module _ (config : Config) (s : Stripe) (own_new : StripeSide) (command : Comman
   MayWant (wants.Classes classes) = WantsAlone s command moment (wants.Classes classes) × (Suffice home other s command moment → ⊥)
 
 -- the outcome of a try on the locked classes: the command was made, or nothing happened and it may want this
-abbrev pub IsTriedOn : Config → (s : Stripe) (own_new : StripeSide) (caller caller_new : CallerView) → Command → Turn → (home other : Option ClassNo) → Type 0
+abbrev pub IsTriedOn : Config → (own own_new : StripeSide) (caller caller_new : CallerView) → Command → Turn → (home other : Option ClassNo) → Type 0
     → Tried → Type 0
-IsTriedOn config s own_new caller caller_new command turn home other AnyFull (tried.Made reply woken) =
-    IsMadeIn config s own_new caller caller_new command turn (record { reply = reply; woken = woken })
-IsTriedOn config s own_new caller caller_new command turn home other AnyFull (tried.Wants want) =
-    (own_new.stripe.history ≡ s.history) × StillTries config command turn caller caller_new
-    × MayWant config s own_new command turn.moment home other AnyFull want
+IsTriedOn config own own_new caller caller_new command turn home other AnyFull (tried.Made reply woken) =
+    IsMadeIn config own own_new caller caller_new command turn (record { reply = reply; woken = woken })
+IsTriedOn config own own_new caller caller_new command turn home other AnyFull (tried.Wants want) =
+    (own_new.stripe.history ≡ own.stripe.history) × StillTries config turn own own_new caller caller_new
+    × MayWant config own.stripe own_new command turn.moment home other AnyFull want
 
 -- a stripe gained only events of the call's walker in this class
 pub record IsWalked (config : Config) (turn : Turn) (class : ClassNo) (s s_new : Stripe) : Type 0 where
@@ -119,14 +120,17 @@ HasGivenUpAny config s turn v =
     → HasGivenUp config (record { 0 = s.site.stripe }) v.number turn.who turn.moment key v.history
 
 -- how a command ends under the lock of its stripe: it was answered, or it was broken off with at most what leads up to it;
--- `HistoryFull` means that a history lacks places for it; its caller's account gained only events of the command's turn, on locks
--- that the command may work on
-pub record Ends (config : Config) (s : Stripe) (own_new : StripeSide) (caller caller_new : CallerView) (command : Command) (turn : Turn)
+-- `HistoryFull` means that a history lacks places for it; what the stripe saw only grew, and its caller's account gained only what
+-- the command may make, if it was answered with one search at most
+pub record Ends (config : Config) (own own_new : StripeSide) (caller caller_new : CallerView) (command : Command) (turn : Turn)
     (result : Result Replied Fault) : Type 0 where
-  pub replied : IfOk result (IsRepliedAs config turn.who command turn.moment s own_new.stripe own_new.sight caller.calls caller_new.calls)
-  pub cut : OnErr result (IsCut config turn.who command turn.moment s own_new.stripe)
+  pub replied : IfOk result (IsRepliedAs config turn.who command turn.moment own.stripe own_new.stripe own_new.sight caller.calls caller_new.calls)
+  pub cut : OnErr result (IsCut config turn.who command turn.moment own.stripe own_new.stripe)
   pub unnoted : OnErr result (caller_new.calls ≡ caller.calls)
   pub number : caller_new.number ≡ caller.number
-  pub enters : Enters (IsOfCommand config (stripe_of (key_of command) config.stripes).0 command) turn.who.turn caller.made caller_new.made
-  pub site : KeepsSite s own_new.stripe
-  pub full : IsErrOf result HistoryFull → IsFullFor config s own_new.stripe own_new.sight command turn.moment
+  pub sees : Grows (stripe_sight own) (stripe_sight own_new)
+  pub stretch : Stretch
+  pub enters : Enters (IsOfCommand config own.stripe command turn.moment stretch) turn.who.turn (stripe_sight own_new) caller.made caller_new.made
+  pub search : OnOk result (IsSearchFor config (visible_row own.stripe command turn.moment).need turn.who turn.moment own_new.sight stretch)
+  pub site : KeepsSite own.stripe own_new.stripe
+  pub full : IsErrOf result HistoryFull → IsFullFor config own.stripe own_new.stripe own_new.sight command turn.moment

@@ -12,6 +12,7 @@ pub mod Performing
 pub mod Looked
 pub mod Walking
 pub mod Earned
+pub mod Searches
 pub mod Waking
 pub mod Calls
 pub mod Crawls

@@ -3,11 +3,12 @@ use Rattle.std.specs.Prelude.{◌≡◌, ◌≢◌, ◌<◌, ◌+◌, ◌⊎◌,
 use mathlib.Core.List.{IsPrefix}
 use Rattle.atomic_table.specs.Seated.{TableId}
 use Rattle.mc_item.specs.declared.{config.Config.Config, fault.Fault.Fault, fault.Fault.TheVariants.HistoryFull, fault.Fault.TheVariants.NoMemory}
-use Rattle.mc_item.specs.declared.item.Who.{Who}
+use Rattle.mc_item.specs.declared.{item.ClassNo.ClassNo, item.Who.Who}
+use Rattle.mc_evidence.specs.Setting.{IsClass}
 use Rattle.mc_board.specs.{Accounts.AreBy, Histories.Grows, Histories.NotesStay, Histories.list_at, Views.OwnerView, Views.SeenView}
 use Rattle.mc_board.specs.declared.rule.Sight.{Sight}
 use Rattle.mc_segment.specs.ClassState.{ClassView}
-use Rattle.mc_store.specs.{Locked.IsHeldClass, Locked.locks_for, Sides.ClassSide, Sides.class_told}
+use Rattle.mc_store.specs.{Locked.IsHeldClass, Locked.class_lock, Locked.locks_for, Locked.setting_of, Sides.ClassSide, Sides.class_told}
 
 -- a class together with its tokens, which are lent apart from it
 abbrev pub class_side : OwnerView → SeenView → ClassView → ClassSide
@@ -27,9 +28,16 @@ pub record HasSeenShort (config : Config) (sight : Sight) : Type 0 where
   pub of : lock < locks_for config
   pub short : config.max_events < length (list_at sight.seen lock) + 2
 
--- the faults that a walk may return: `HistoryFull` only if the class's history, or one that was seen, has under two places left
+-- the store has this class, and by what was seen of it or of a stripe, its history has fewer than two places left
+pub record IsShortFor (config : Config) (class : ClassNo) (sight : Sight) : Type 0 where
+  pub is : IsClass (setting_of config) class
+  pub lock : ℕ
+  pub of : (lock ≡ class_lock config class) ⊎ (lock < config.stripes)
+  pub short : config.max_events < length (list_at sight.seen lock) + 2
+
+-- the faults that a walk may return: `HistoryFull` only if the class's history, or a stripe's that was seen, has under two places left
 abbrev pub MayFailSeen : Config → Sight → ClassView → Fault → Type 0
-MayFailSeen config sight c HistoryFull = (c.max_events < length c.history + 2) ⊎ HasSeenShort config sight
+MayFailSeen config sight c HistoryFull = (c.max_events < length c.history + 2) ⊎ IsShortFor config c.number sight
 MayFailSeen config sight c NoMemory = Unit {0}
 
 -- a token later: it has seen no less, and what it has noted stays

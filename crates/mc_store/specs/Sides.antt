@@ -3,6 +3,7 @@ use Rattle.std.specs.Prelude.{◌≡◌, ℕ, List, Some, map, slice_get}
 use Rattle.atomic_table.specs.Seated.{TableId}
 use Rattle.mc_item.specs.declared.{class_event.ClassEvent.ClassEvent, event.Event.Event, event.Event.TheVariants.Class, event.Event.TheVariants.Stripe}
 use Rattle.mc_item.specs.declared.{stripe_event.StripeEvent.StripeEvent}
+use Rattle.mc_board.specs.Histories.{with_seen}
 use Rattle.mc_board.specs.declared.rule.Sight.{Sight}
 use Rattle.mc_segment.specs.ClassState.{ClassView}
 use Rattle.mc_stripe.specs.StripeState as states
@@ -28,6 +29,10 @@ pub record ClassSide : Type 0 where
   pub lock : ℕ
   pub class : ClassView
   pub sight : Sight
+
+-- what a stripe has seen of all locks, with all of its own history
+abbrev pub stripe_sight : StripeSide → Sight
+stripe_sight s = with_seen s.sight s.lock (stripe_told s.stripe.history)
 
 -- the stripes are all of this board
 pub record AreStripesOn (board : TableId) (stripes : List StripeSide) : Type 0 where

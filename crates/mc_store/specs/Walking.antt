@@ -1,15 +1,39 @@
 -- What a walk asks of a class's tokens, which are lent apart from the class, and what it leaves of them (own).
-use Rattle.std.specs.Prelude.{◌≡◌, ℕ, None, Option, is_some, true, IsSomeAnd}
+use Rattle.std.specs.Prelude.{◌≡◌, ℕ, List, length, None, Option, is_some, true, IsSomeAnd}
 use Rattle.atomic_table.specs.Seated.{TableId}
-use Rattle.mc_item.specs.declared.{config.Config.Config, item.Who.Who}
-use Rattle.mc_board.specs.{Histories.Grows, Views.OwnerView, Views.SeenView}
+use Rattle.mc_item.specs.declared.{class_event.ClassEvent.ClassEvent, config.Config.Config, item.ClassNo.ClassNo, item.Who.Who}
+use Rattle.mc_board.specs.{Histories.Grows, Histories.with_seen, Views.OwnerView, Views.SeenView}
 use Rattle.mc_board.specs.declared.rule.Sight.{Sight}
 use Rattle.mc_segment.specs.ClassState.{ClassView}
 use Rattle.mc_stripe.specs.StripeState.{Stripe}
 use Rattle.mc_pull.specs.declared.{context.Context.Context, looking.Judged.Judged, looking.Look.Look}
 use Rattle.mc_pull.specs.{Growth.GainsEvents, Looks.IsJudgedIf, Looks.events_if, Lone.StripeGrows, Settled.class_with, Walker.Walker}
 use Rattle.mc_pull.specs.Question.{HasKeyOf, IsClassOf, MayJudge, Question, question_of}
-use Rattle.mc_store.specs.{Looked.IsKnown, Locked.HasBegun, Made.SearchesOwn, Made.WalksOwn, Passes.CallerView, Serving.IsServed, Sides.class_told}
+use Rattle.mc_store.specs.{Accounts.IsOfStretch, Accounts.IsOfWalk, Accounts.StillCalls, Looked.IsKnown, Locked.HasBegun, Locked.class_lock}
+use Rattle.mc_store.specs.{Made.SearchesOwn, Made.WalksOwn}
+use Rattle.mc_store.specs.{Passes.CallerView, Serving.IsServed, Sides.ClassSide, Sides.class_told}
+
+-- what was seen of all locks, with this whole history of a class
+abbrev pub with_class : Config → ClassNo → List ClassEvent → Sight → Sight
+with_class config class history sight = with_seen sight (class_lock config class) (class_told history)
+
+-- what a class has seen of all locks, with all of its own history
+abbrev pub class_sight : Config → ClassSide → Sight
+class_sight config c = with_class config c.class.number c.class.history c.sight
+
+-- a walk of this caller's call goes on in a class: from what was seen and the class's history to what was seen then and its history
+-- then, the account gained only what the walk may make
+abbrev pub StillWalks : Config → ClassNo → (turn : ℕ) → (before after : Sight) → (history history_new : List ClassEvent) → (caller caller_new : CallerView)
+    → Type 0
+StillWalks config class turn before after history history_new =
+    StillCalls (IsOfWalk config class) turn (with_class config class history before) (with_class config class history_new after)
+
+-- the same, from a place of the class's history on: there is no event of the class before it
+abbrev pub StillWalksFrom : Config → ClassNo → (from turn : ℕ) → (before after : Sight) → (history history_new : List ClassEvent)
+    → (caller caller_new : CallerView) → Type 0
+StillWalksFrom config class from turn before after history history_new =
+    StillCalls (IsOfStretch config class (record { from = from; until = length history_new })) turn (with_class config class history before)
+    (with_class config class history_new after)
 
 -- a call of this caller may walk in a class: the class's tokens serve it for the call, and have seen that the call began
 pub record MayWalkWith (board : TableId) (config : Config) (caller : CallerView) (owner : OwnerView) (seen : SeenView) (c : ClassView) (who : Who)

@@ -8,7 +8,7 @@ ghost use Rattle.mc_evidence.specs.Setting.{IsClass};
 ghost use Rattle.mc_stripe.specs.{Plan.dead_link, StripeCalls.KeepsSite, StripeState.cache_now};
 ghost use Rattle.mc_stripe.specs.declared.wanting.Want.TheVariants as wants;
 ghost use Rattle.mc_store.specs.{Callers.asked_for, Commands.burial, Full.LacksPlaces, Locked.HasBegunAs, Locked.HasBegunCommand, Locked.setting_of};
-ghost use Rattle.mc_store.specs.{Accounts.IsOfCommand, Accounts.StillCalls};
+ghost use Rattle.mc_store.specs.Trying.{StillTries};
 ghost use Rattle.mc_store.specs.Held.{Ends, IsCallOn, WantsAlone, class_held};
 
 use crate::caller::Caller;
@@ -67,7 +67,7 @@ fn answer_with<N: Named>(
     requires called { IsCallOn N.config own.old.stripe caller.old task.command.now task.turn }
     requires begun { HasBegunAs N.config own.old.sight task.turn.who task.turn.moment (asked_for task.command.now task.turn.moment) }
     requires wanted { WantsAlone own.old.stripe task.command.now task.turn.moment (wants.Classes wanted) }
-    ensures { Ends N.config own.old.stripe own.new caller.old caller.new task.entry.command.now task.entry.turn result }
+    ensures { Ends N.config own.old own.new caller.old caller.new task.entry.command.now task.entry.turn result }
 {
     let store = task.store;
     own.law();
@@ -104,8 +104,7 @@ fn bury<N: Named>(
         task.entry.turn.moment (Some link)) }
     ensures err { OnErr result (own.new.stripe.history ≡ own.old.stripe.history) }
     ensures sees { Grows own.old.sight own.new.sight }
-    ensures same { KeepsSite own.old.stripe own.new.stripe
-        × StillCalls (IsOfCommand N.config own.old.stripe.site.stripe task.entry.command.now) task.entry.turn.who.turn caller.old caller.new }
+    ensures same { KeepsSite own.old.stripe own.new.stripe × StillTries N.config task.entry.turn own.old own.new caller.old caller.new }
     ensures full { IsErrOf result HistoryFull → (own.new.stripe.limit < length own.new.stripe.history + 2) ⊎ LacksPlaces N.config own.new.sight link.class 2 }
 {
     let store = task.store;
@@ -126,7 +125,7 @@ fn answer_want<N: Named>(
 ) -> Result<Replied, Fault>
     requires called { IsCallOn N.config own.old.stripe caller.old task.command.now task.turn }
     requires wants { WantsAlone own.old.stripe task.command.now task.turn.moment want }
-    ensures { Ends N.config own.old.stripe own.new caller.old caller.new task.entry.command.now task.entry.turn result }
+    ensures { Ends N.config own.old own.new caller.old caller.new task.entry.command.now task.entry.turn result }
 {
     let store = task.store;
     own.law();
@@ -159,7 +158,7 @@ pub(crate) fn answer<N: Named>(
     caller: &mut Caller<N>,
 ) -> Result<Replied, Fault>
     requires called { IsCallOn N.config own.old.stripe caller.old task.command.now task.turn }
-    ensures { Ends N.config own.old.stripe own.new caller.old caller.new task.entry.command.now task.entry.turn result }
+    ensures { Ends N.config own.old own.new caller.old caller.new task.entry.command.now task.entry.turn result }
 {
     own.law();
     match try_alone(task, own, caller)? {
@@ -180,7 +179,7 @@ pub(crate) fn answer_for<'a, N: Named>(
 ) -> Result<Replied, Fault>
     requires called { IsCallOn N.config own.old.stripe caller.old task.command.now task.turn }
     requires class { IsClass (setting_of N.config) class }
-    ensures { Ends N.config own.old.stripe own.new caller.old caller.new task.entry.command.now task.entry.turn result }
+    ensures { Ends N.config own.old own.new caller.old caller.new task.entry.command.now task.entry.turn result }
 {
     let store = task.store;
     let board = &store.board;

@@ -3,7 +3,6 @@ ghost use Rattle.std.specs.Prelude.{◌≡◌, ◌≤◌, ◌⊎◌, ◌+◌, �
 ghost use Rattle.mc_item.specs.{Command.key_of, Measure.stripe_of};
 ghost use Rattle.mc_item.specs.declared.fault.Fault.TheVariants.{HistoryFull};
 ghost use Rattle.mc_evidence.specs.Setting.{IsClass};
-ghost use Rattle.mc_store.specs.Accounts.{Enters, IsOfCommand};
 ghost use Rattle.mc_store.specs.{Calls.IsCutBy, Calls.IsRepliedBy, Callers.turns_of, Hits.IsOffered, Locked.setting_of, Passes.next_who};
 ghost use Rattle.mc_store.specs.Serving.{IsLater};
 ghost use Rattle.mc_store.specs.Waking.{reply_in, woken_in};
@@ -72,8 +71,8 @@ impl<N: Named> Store<N> {
     /// history, after all that the pass had seen. The caller's history gains the call and the place of its answer.
     /// It waits for the lock of the key's stripe, and then for those of at most two classes, the lower number first. `moment` is
     /// the time in whole seconds, at most 2^62.
-    /// The caller's account gains events of this turn alone: on the key's stripe, on classes, and on other stripes only if the command
-    /// may need a chunk.
+    /// The caller's account gains events of this turn alone, all of which the pass has then seen: of the key's stripe, of classes
+    /// where entries come and leave with their items, and if a new chunk is needed, those of a search in its class.
     /// If the command's hit made its item ACTIVE, it offers the hit to the queue of the item's class, without any lock. If the queue
     /// is full, the hit is dropped.
     /// After a fault the stripe's history has gained at most what leads up to the command: the dead item's removal, and a search
@@ -90,16 +89,13 @@ impl<N: Named> Store<N> {
         moment: u64,
     ) -> Result<Reply, Fault>
         requires early { moment ≤ 2 ^ 62 }
-        ensures replied { IfOk result (IsRepliedBy N.config (stripe_of (key_of command) N.config.stripes).0 pass.old.sight pass.new.sight pass.old.calls
-            pass.new.calls (next_who pass.old) command moment) }
+        ensures replied { IfOk result (IsRepliedBy N.config (stripe_of (key_of command) N.config.stripes).0 pass.old pass.new command moment) }
         ensures cut { IfErr result (λ fault. ((pass.new ≡ pass.old) × (fault ≡ HistoryFull → N.config.max_events ≤ pass.old.turn))
-            ⊎ IsCutBy N.config (stripe_of (key_of command) N.config.stripes).0 pass.old.sight pass.new.sight pass.old.calls pass.new.calls (next_who pass.old)
-            command moment fault) }
+            ⊎ IsCutBy N.config (stripe_of (key_of command) N.config.stripes).0 pass.old pass.new command moment fault) }
         ensures offers { (pass.new.hands ≡ pass.old.hands) ⊎ IsOffered N.config (stripe_of (key_of command) N.config.stripes).0 pass.new.sight
             (next_who pass.old) command moment pass.old.hands pass.new.hands }
         ensures grows { IsLater pass.old.sight pass.new.sight }
         ensures caller { pass.new.caller ≡ pass.old.caller }
-        ensures account { Enters (IsOfCommand N.config (stripe_of (key_of command) N.config.stripes).0 command) pass.old.turn pass.old.made pass.new.made }
         ensures turn { (pass.new.turn ≡ length (turns_of pass.new.calls)) × OnOk result (pass.new.turn ≡ pass.old.turn + 1) }
     {
         let asking = Asking {

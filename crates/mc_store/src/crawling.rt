@@ -8,7 +8,8 @@ ghost use Rattle.mc_crawl.specs.CrawlCount.{IsBalanced, MayCount};
 ghost use Rattle.mc_store.specs.Accounts.{Enters, IsOfWalk, StillCalls};
 ghost use Rattle.mc_store.specs.Crawls.{CountsOne, HasCountedLink, IsCrawledBy, IsSeenSound, IsSnapshot, MayCrawl};
 ghost use Rattle.mc_store.specs.{Locked.class_lock, Locked.setting_of, Locked.HasBegunAs, Passes.next_who};
-ghost use Rattle.mc_store.specs.{Sides.class_told, Serving.HasSeenShort, Serving.IsLater, Serving.MayFailSeen, Walking.LeavesTokens, Walking.MayTry};
+ghost use Rattle.mc_store.specs.{Sides.class_told, Serving.IsLater, Serving.IsShortFor, Serving.MayFailSeen, Walking.LeavesTokens, Walking.MayTry};
+ghost use Rattle.mc_store.specs.Walking.{StillWalks, class_sight};
 ghost use Rattle.mc_store.specs.Callers.{crawling_of, turns_of};
 
 use crate::caller::Caller;
@@ -54,7 +55,8 @@ impl<'a, N: Named> Trying<'a, N> {
         ensures fault { IfErr result (MayFailSeen N.config self.new.seen.now.sight class.new) }
         ensures references { (self.new.caller.ghost_name ≡ self.old.caller.ghost_name) × (self.new.owner.ghost_name ≡ self.old.owner.ghost_name)
             × (self.new.seen.ghost_name ≡ self.old.seen.ghost_name)
-            × StillCalls (IsOfWalk N.config class.old.number) context.entry.turn.who.turn self.old.caller.now self.new.caller.now }
+            × StillWalks N.config class.old.number context.entry.turn.who.turn self.old.seen.now.sight self.new.seen.now.sight class.old.history
+            class.new.history self.old.caller.now self.new.caller.now }
         ensures left { LeavesTokens N.board.table N.config context.entry.turn.who context.entry.turn.moment self.old.seen.now.sight class.old
             self.new.owner.now self.new.seen.now class.new }
     {
@@ -86,7 +88,8 @@ fn crawl_under<N: Named>(
     ensures counted { OnOk result (CountsOne N.config class.old.class class.new.class call.entry.turn link histogram.old histogram.new) }
     ensures balanced { IsBalanced histogram.old → IsBalanced histogram.new }
     ensures class { classes.GainsEvents class.old.class class.new.class }
-    ensures still { StillCalls (IsOfWalk N.config class.old.class.number) call.entry.turn.who.turn caller.old caller.new }
+    ensures still { StillCalls (IsOfWalk N.config class.old.class.number) call.entry.turn.who.turn (class_sight N.config class.old)
+        (class_sight N.config class.new) caller.old caller.new }
     ensures fault { IfErr result (MayFailSeen N.config class.new.sight class.new.class) }
 {
     let store = call.store;
@@ -152,8 +155,8 @@ impl<N: Named> Store<N> {
         ensures sound { IsSeenSound N.config crawling.class pass.new.sight }
         ensures grows { IsLater pass.old.sight pass.new.sight }
         ensures same { (pass.new ≡ record pass.old { sight = pass.new.sight; made = pass.new.made })
-            × Enters (IsOfWalk N.config crawling.class) crawling.turn.who.turn pass.old.made pass.new.made }
-        ensures full { IsErrOf result HistoryFull → HasSeenShort N.config pass.new.sight }
+            × Enters (IsOfWalk N.config crawling.class) crawling.turn.who.turn pass.new.sight pass.old.made pass.new.made }
+        ensures full { IsErrOf result HistoryFull → IsShortFor N.config crawling.class pass.new.sight }
     {
         let Crawling { alloc, class, turn } = crawling;
         let call = Call {
@@ -174,8 +177,8 @@ impl<N: Named> Store<N> {
     /// It takes a snapshot of the links under the class's lock, then looks at each link under the lock again. It waits for the
     /// class's lock, and only tries those of stripes. It removes an item that is dead at `moment`, with its entry. `moment` is
     /// the time in whole seconds. The events that it makes are of this class and of stripes.
-    /// After a fault what happened so far stays. `HistoryFull` comes only if a stripe's or class's history has fewer than two
-    /// places left, or the pass has had `max_events` turns. `NoMemory` comes if an allocation fails.
+    /// After a fault what happened so far stays. `HistoryFull` comes only if the history of this class or of a stripe has
+    /// fewer than two places left, or the pass has had `max_events` turns. `NoMemory` comes if an allocation fails.
     pub fn crawl(
         &self,
         alloc: Global,
@@ -193,8 +196,8 @@ impl<N: Named> Store<N> {
         ensures calls { OnOk result (pass.new.calls ≡ pass.old.calls ++ crawling_of class moment ∷ []) }
         ensures cut { OnErr result ((pass.new ≡ pass.old) ⊎ (pass.new.calls ≡ pass.old.calls ++ crawling_of class moment ∷ [])) }
         ensures turn { (pass.new.turn ≡ length (turns_of pass.new.calls)) × OnOk result (pass.new.turn ≡ pass.old.turn + 1) }
-        ensures full { IsErrOf result HistoryFull → HasSeenShort N.config pass.new.sight ⊎ (N.config.max_events ≤ pass.old.turn) }
-        ensures account { Enters (IsOfWalk N.config class) pass.old.turn pass.old.made pass.new.made }
+        ensures full { IsErrOf result HistoryFull → IsShortFor N.config class pass.new.sight ⊎ (N.config.max_events ≤ pass.old.turn) }
+        ensures account { Enters (IsOfWalk N.config class) pass.old.turn pass.new.sight pass.old.made pass.new.made }
     {
         let event = CallEvent::Crawled(Worked { class, moment });
         let who = pass.take_turn(self, &event)?;

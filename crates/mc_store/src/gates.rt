@@ -1,10 +1,10 @@
 //! Gates: how a walk under a class's lock reaches the stripes of its entries. A stripe's lock is tried, and never waited for.
-ghost use Rattle.std.specs.Prelude.{◌≡◌, ◌≢◌, ◌≤◌, ◌+◌, List, IfErr, IfOk, false, true};
+ghost use Rattle.std.specs.Prelude.{◌≡◌, ◌≢◌, ◌≤◌, ◌+◌, List, IfErr, IfOk, false, length, true};
 ghost use Rattle.mc_pull.specs.{Growth.GainsEvents, Growth.GainsFor, Juggle.IsJuggle, Rounds.IsRoom, Rounds.rounds_by};
 ghost use Rattle.mc_pull.specs.Walker.{walker_by};
 ghost use Rattle.mc_pull.specs.declared.looking.Answer.{Answer};
-ghost use Rattle.mc_store.specs.{Accounts.IsOfWalk, Accounts.StillCalls, Earned.IsSearchInVain, Looked.IsOfCall, Serving.MayFailSeen};
-ghost use Rattle.mc_store.specs.Walking.{LeavesSearch, LeavesTokens, MayTry};
+ghost use Rattle.mc_store.specs.{Earned.IsSearchInVain, Looked.IsOfCall, Serving.MayFailSeen};
+ghost use Rattle.mc_store.specs.Walking.{LeavesSearch, LeavesTokens, MayTry, StillWalks, StillWalksFrom};
 
 use crate::caller::Caller;
 use crate::judging::judge;
@@ -64,7 +64,8 @@ impl<'a, N: Named> Trying<'a, N> {
         ensures fault { IfErr result (MayFailSeen N.config self.new.seen.now.sight class.new) }
         ensures references { (self.new.caller.ghost_name ≡ self.old.caller.ghost_name) × (self.new.owner.ghost_name ≡ self.old.owner.ghost_name)
             × (self.new.seen.ghost_name ≡ self.old.seen.ghost_name) }
-        ensures still { StillCalls (IsOfWalk N.config class.old.number) context.entry.turn.who.turn self.old.caller.now self.new.caller.now }
+        ensures still { StillWalks N.config class.old.number context.entry.turn.who.turn self.old.seen.now.sight self.new.seen.now.sight
+            class.old.history class.new.history self.old.caller.now self.new.caller.now }
         ensures left { LeavesTokens N.board.table N.config context.entry.turn.who context.entry.turn.moment self.old.seen.now.sight class.old
             self.new.owner.now self.new.seen.now class.new }
     {
@@ -83,8 +84,8 @@ impl<'a, N: Named> Trying<'a, N> {
 }
 
 impl<'a, N: Named> Gate for Trying<'a, N> {
-    ghost use Rattle.std.specs.Prelude.{◌≡◌, ◌∷◌, []};
-    ghost use Rattle.mc_store.specs.{Accounts.IsOfWalk, Accounts.StillCalls, Locked.HasBegun, Made.WalksOwn, Serving.IsServed, Serving.MayFailSeen};
+    ghost use Rattle.std.specs.Prelude.{◌≡◌, ◌≤◌, ◌∷◌, [], length};
+    ghost use Rattle.mc_store.specs.{Locked.HasBegun, Made.WalksOwn, Serving.IsServed, Serving.MayFailSeen, Walking.StillWalksFrom};
 
     ghost answers = { λ g. g.answers.now.items };
 
@@ -97,7 +98,9 @@ impl<'a, N: Named> Gate for Trying<'a, N> {
 
     ghost keeps = { λ w g begun h history. (h.who ≡ g.who) × (h.moment ≡ g.moment)
         × WalksOwn w.who w.moment g.seen.now.sight h.seen.now.sight begun history
-        × StillCalls (IsOfWalk N.config w.class) w.who.turn g.caller.now h.caller.now };
+        × (length g.owner.now.history ≤ length h.owner.now.history)
+        × StillWalksFrom N.config w.class (length g.owner.now.history) w.who.turn g.seen.now.sight h.seen.now.sight begun history g.caller.now
+        h.caller.now };
 
     fn visit(&mut self, stripe: StripeNo, look: &mut Look<'_>) -> Result<bool, Fault> {
         self.answers.reserve(1)?;
@@ -148,9 +151,9 @@ pub(crate) struct Holding<'a, 'b, N: Named> {
 }
 
 impl<'a, 'b, N: Named> Gate for Holding<'a, 'b, N> {
-    ghost use Rattle.std.specs.Prelude.{◌≡◌, ◌∷◌, []};
+    ghost use Rattle.std.specs.Prelude.{◌≡◌, ◌≤◌, ◌∷◌, [], length};
     ghost use Rattle.mc_pull.specs.Lone.{StripeGrows};
-    ghost use Rattle.mc_store.specs.{Accounts.IsOfWalk, Accounts.StillCalls, Looked.HasLooked, Looked.IsOfCall, Locked.HasBegun, Made.SearchesOwn};
+    ghost use Rattle.mc_store.specs.{Looked.HasLooked, Looked.IsOfCall, Locked.HasBegun, Made.SearchesOwn, Walking.StillWalksFrom};
     ghost use Rattle.mc_store.specs.Serving.{IsServed, MayFailSeen};
 
     ghost answers = { λ g. g.others.answers.now.items };
@@ -166,7 +169,9 @@ impl<'a, 'b, N: Named> Gate for Holding<'a, 'b, N> {
         × (IsOfCall w g.others.who g.others.moment → IsOfCall w h.others.who h.others.moment
         × HasLooked N.config.stripes w g.own.now.stripe g.others.answers.now.items h.others.answers.now.items begun history)
         × SearchesOwn w.who w.moment g.others.seen.now.sight h.others.seen.now.sight begun history
-        × StillCalls (IsOfWalk N.config w.class) w.who.turn g.others.caller.now h.others.caller.now };
+        × (length g.others.owner.now.history ≤ length h.others.owner.now.history)
+        × StillWalksFrom N.config w.class (length g.others.owner.now.history) w.who.turn g.others.seen.now.sight h.others.seen.now.sight begun
+        history g.others.caller.now h.others.caller.now };
 
     fn visit(&mut self, stripe: StripeNo, look: &mut Look<'_>) -> Result<bool, Fault> {
         if !self.lends(stripe, look) {
@@ -219,7 +224,9 @@ impl<'a, 'b, N: Named> Holding<'a, 'b, N> {
         ensures fault { IfErr result (MayFailSeen N.config self.new.others.seen.now.sight class.new) }
         ensures references { (self.new.own.ghost_name ≡ self.old.own.ghost_name) × (self.new.others.caller.ghost_name ≡ self.old.others.caller.ghost_name)
             × (self.new.others.owner.ghost_name ≡ self.old.others.owner.ghost_name) × (self.new.others.seen.ghost_name ≡ self.old.others.seen.ghost_name) }
-        ensures still { StillCalls (IsOfWalk N.config class.old.number) context.entry.turn.who.turn self.old.others.caller.now
+        ensures still { (length self.old.others.owner.now.history ≤ length self.new.others.owner.now.history)
+            × StillWalksFrom N.config class.old.number (length self.old.others.owner.now.history) context.entry.turn.who.turn
+            self.old.others.seen.now.sight self.new.others.seen.now.sight class.old.history class.new.history self.old.others.caller.now
             self.new.others.caller.now }
         ensures left { LeavesSearch N.board.table N.config (walker_by class.old context.entry) self.old.others.seen.now.sight class.old
             self.old.own.now.stripe self.new.others.owner.now self.new.others.seen.now class.new self.new.own.now.stripe }

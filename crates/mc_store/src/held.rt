@@ -4,12 +4,13 @@ ghost use Rattle.mc_item.specs.Command.{key_of};
 ghost use Rattle.mc_item.specs.declared.answer.Need.TheVariants as needs;
 ghost use Rattle.mc_item.specs.declared.fault.Fault.TheVariants.{HistoryFull};
 ghost use Rattle.mc_board.specs.Histories.{Grows};
-ghost use Rattle.mc_pull.specs.{Attempt.IsReady, Suited.MayNeedChunk};
+ghost use Rattle.mc_pull.specs.Attempt.{IsReady};
 ghost use Rattle.mc_rule.specs.Lists.{IsFull};
 ghost use Rattle.mc_segment.specs.ClassState.{with_room};
 ghost use Rattle.mc_stripe.specs.StripeCalls.{KeepsSite};
 ghost use Rattle.mc_store.specs.Held.{Ends, HasGivenUpAny, IsCallOn, IsRefusedAt, IsStillFull, IsTriedOn, IsWalked, Suffice, WantsChunk, class_held};
-ghost use Rattle.mc_store.specs.{Callers.asked_for, Full.HasSeenFull, Locked.HasBegunAs, Locked.HasBegunSearch, Serving.HasSeenShort, Trying.StillTries};
+ghost use Rattle.mc_store.specs.{Callers.asked_for, Full.HasSeenFull, Locked.HasBegunAs, Locked.HasBegunSearch, Serving.IsShortFor, Trying.StillSearches};
+ghost use Rattle.mc_store.specs.{Accounts.stretch_of, Searches.IsSearchedIf, Trying.StillTries};
 
 use crate::caller::Caller;
 use crate::locked::{LockedClass, LockedStripe};
@@ -43,10 +44,10 @@ fn try_other<N: Named>(
     caller: &mut Caller<N>,
 ) -> Result<Tried, Fault>
     requires called { IsCallOn N.config own.old.stripe caller.old task.command.now task.turn }
-    ensures tried { IfOk result (IsTriedOn N.config own.old.stripe own.new caller.old caller.new task.entry.command.now task.entry.turn None (Some
+    ensures tried { IfOk result (IsTriedOn N.config own.old own.new caller.old caller.new task.entry.command.now task.entry.turn None (Some
         other.old.class.number) ⊥) }
     ensures err { OnErr result ((own.new.stripe.history ≡ own.old.stripe.history)
-        × StillTries N.config task.entry.command.now task.entry.turn caller.old caller.new) }
+        × StillTries N.config task.entry.turn own.old own.new caller.old caller.new) }
     ensures sees { Grows own.old.sight own.new.sight }
     ensures site { KeepsSite own.old.stripe own.new.stripe }
     ensures full { IsErrOf result HistoryFull → own.new.stripe.limit ≤ length own.new.stripe.history }
@@ -76,11 +77,11 @@ pub(crate) fn try_home<N: Named>(
     requires called { IsCallOn N.config own.old.stripe caller.old task.command.now task.turn }
     requires apart { class_held other.old ≢ Some home.old.class.number }
     requires refused { IsRefusedAt N.config own.old.stripe task.turn (key_of task.command.now) home.old.class refused }
-    ensures tried { IfOk result (IsTriedOn N.config own.old.stripe own.new caller.old caller.new task.entry.command.now task.entry.turn (Some
+    ensures tried { IfOk result (IsTriedOn N.config own.old own.new caller.old caller.new task.entry.command.now task.entry.turn (Some
         home.old.class.number) (class_held other.old) (IsStillFull N.config own.new.sight refused home.old.class home.new.class × (class_held other.new ≡
         class_held other.old) × WantsChunk home.old.class.number (class_held other.old) own.old.stripe task.entry.command.now task.entry.turn.moment)) }
     ensures err { OnErr result ((own.new.stripe.history ≡ own.old.stripe.history)
-        × StillTries N.config task.entry.command.now task.entry.turn caller.old caller.new) }
+        × StillTries N.config task.entry.turn own.old own.new caller.old caller.new) }
     ensures sees { Grows own.old.sight own.new.sight }
     ensures site { KeepsSite own.old.stripe own.new.stripe }
     ensures full { IsErrOf result HistoryFull → own.new.stripe.limit ≤ length own.new.stripe.history }
@@ -113,22 +114,24 @@ pub(crate) fn try_home<N: Named>(
     }
 }
 
-// Looks for a chunk in the class of a new version, if none is free, for a command that may need one.
+// Looks for a chunk in the class of a new version, if none is free.
 fn search<N: Named>(
     task: Task<'_, N>,
     own: &mut LockedStripe<N>,
     home: &mut LockedClass<N>,
     caller: &mut Caller<N>,
 ) -> Result<(), Fault>
-    requires begun { HasBegunSearch N.config own.old.sight task.turn.who task.turn.moment × (task.turn.who.caller ≡ caller.old.number)
-        × MayNeedChunk task.command.now }
-    ensures tried { OnOk result (IsFull home.new.class.chunks home.new.class.history → HasGivenUpAny N.config own.old.stripe task.entry.turn home.new.class) }
+    requires begun { HasBegunSearch N.config own.old.sight task.turn.who task.turn.moment × (task.turn.who.caller ≡ caller.old.number) }
+    ensures tried { OnOk result ((IsFull home.new.class.chunks home.new.class.history → HasGivenUpAny N.config own.old.stripe task.entry.turn
+        home.new.class) × IsSearchedIf N.config task.entry.turn.who task.entry.turn.moment own.new.sight home.old.class home.new.class) }
     ensures walked { IsWalked N.config task.entry.turn home.old.class.number own.old.stripe own.new.stripe }
-    ensures same { (home.new.class.number ≡ home.old.class.number) × StillTries N.config task.entry.command.now task.entry.turn caller.old caller.new }
+    ensures same { (home.new.class.number ≡ home.old.class.number) × StillSearches N.config home.old.class.number (stretch_of home.old.class
+        home.new.class) task.entry.turn own.old own.new caller.old caller.new }
     ensures begun { HasBegunSearch N.config own.new.sight task.entry.turn.who task.entry.turn.moment }
     ensures site { KeepsSite own.old.stripe own.new.stripe }
     ensures seen { (own.new ≡ own.old) ⊎ HasSeenFull N.config own.new.sight home.old.class.number }
-    ensures full { IsErrOf result HistoryFull → HasSeenFull N.config own.new.sight home.old.class.number × HasSeenShort N.config own.new.sight }
+    ensures full { IsErrOf result HistoryFull → HasSeenFull N.config own.new.sight home.old.class.number
+        × IsShortFor N.config home.old.class.number own.new.sight }
 {
     if !home.side().state().is_full() {
         return Ok(());
@@ -150,7 +153,7 @@ pub(crate) fn answer_at_home<N: Named>(
     requires begun { HasBegunAs N.config own.old.sight task.turn.who task.turn.moment (asked_for task.command.now task.turn.moment) }
     requires apart { class_held other.old ≢ Some home.old.class.number }
     requires wants { WantsChunk home.old.class.number (class_held other.old) own.old.stripe task.command.now task.turn.moment }
-    ensures { Ends N.config own.old.stripe own.new caller.old caller.new task.entry.command.now task.entry.turn result }
+    ensures { Ends N.config own.old own.new caller.old caller.new task.entry.command.now task.entry.turn result }
 {
     let store = task.store;
     own.law();
@@ -181,7 +184,7 @@ pub(crate) fn answer_at_item<N: Named>(
 ) -> Result<Replied, Fault>
     requires called { IsCallOn N.config own.old.stripe caller.old task.command.now task.turn }
     requires suffice { Suffice None (Some other.old.class.number) own.old.stripe task.command.now task.turn.moment }
-    ensures { Ends N.config own.old.stripe own.new caller.old caller.new task.entry.command.now task.entry.turn result }
+    ensures { Ends N.config own.old own.new caller.old caller.new task.entry.command.now task.entry.turn result }
 {
     own.law();
     match try_other(task, own, other, caller)? {

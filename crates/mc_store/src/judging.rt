@@ -1,9 +1,9 @@
 //! Judging one entry with its key's stripe, both under locks.
-ghost use Rattle.std.specs.Prelude.{◌≡◌, IfErr, OnOk, OnErr};
+ghost use Rattle.std.specs.Prelude.{◌≡◌, ◌≤◌, IfErr, OnOk, OnErr, length};
 ghost use Rattle.mc_segment.specs.ClassState.{with_room};
 ghost use Rattle.mc_pull.specs.{Question.question_of, Walker.walker_of};
-ghost use Rattle.mc_store.specs.{Accounts.IsOfWalk, Accounts.StillCalls, Serving.MayFailSeen};
-ghost use Rattle.mc_store.specs.Walking.{IsJudgedUnder, LeavesJudged, MayJudgeUnder};
+ghost use Rattle.mc_store.specs.Serving.{MayFailSeen};
+ghost use Rattle.mc_store.specs.Walking.{IsJudgedUnder, LeavesJudged, MayJudgeUnder, StillWalksFrom};
 
 use crate::caller::Caller;
 use crate::locked::LockedStripe;
@@ -26,7 +26,9 @@ pub(crate) fn judge<N: Named>(
     requires board { board.now ≡ N.board }
     requires look { MayJudgeUnder N.board.table N.config caller.old owner.old seen.old look.old stripe.old.sight }
     ensures same_reference { look.new.class.ghost_name ≡ look.old.class.ghost_name }
-    ensures still { StillCalls (IsOfWalk N.config look.old.class.now.number) look.old.ask.who.turn caller.old caller.new }
+    ensures still { StillWalksFrom N.config look.old.class.now.number (length owner.old.history) look.old.ask.who.turn seen.old.sight seen.new.sight
+        look.old.class.now.history look.new.class.now.history caller.old caller.new }
+    ensures owner { length owner.old.history ≤ length owner.new.history }
     ensures judged { OnOk result (IsJudgedUnder N.config stripe.old.stripe (question_of look.old.ask) look.old.class.now look.new.class.now look.new.judged) }
     ensures err { OnErr result (look.new.class.now ≡ with_room look.old.class.now look.new.class.now.room) }
     ensures left { LeavesJudged N.board.table N.config (walker_of look.old.class.now look.old.ask.who look.old.ask.moment) seen.old.sight stripe.old.stripe

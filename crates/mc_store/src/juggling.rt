@@ -3,7 +3,7 @@ ghost use Rattle.std.specs.Prelude.{◌≡◌, ◌≤◌, ◌⊎◌, ◌+◌, �
 ghost use Rattle.mc_item.specs.declared.fault.Fault.TheVariants.{HistoryFull};
 ghost use Rattle.mc_evidence.specs.Setting.{IsClass};
 ghost use Rattle.mc_store.specs.Accounts.{Enters, IsOfWalk};
-ghost use Rattle.mc_store.specs.{Callers.juggling_of, Callers.turns_of, Calls.IsJuggledBy, Hits.Takes, Hits.queue_of, Locked.setting_of, Serving.HasSeenShort};
+ghost use Rattle.mc_store.specs.{Callers.juggling_of, Callers.turns_of, Calls.IsJuggledBy, Hits.Takes, Hits.queue_of, Locked.setting_of, Serving.IsShortFor};
 ghost use Rattle.mc_store.specs.Serving.{IsLater};
 
 use crate::named::Named;
@@ -22,8 +22,8 @@ impl<N: Named> Store<N> {
     /// First it takes up to 256 hits from the class's queue. It moves the entry of each from COLD to WARM, if the item is still
     /// ACTIVE and alive; these moves aren't counted. `moment` is the time in whole seconds. The events that the call makes are of
     /// this class and of stripes.
-    /// After a fault what happened so far stays. `HistoryFull` comes only if a stripe's or class's history has fewer than two
-    /// places left, or the pass has had `max_events` turns. `NoMemory` comes if an allocation fails.
+    /// After a fault what happened so far stays. `HistoryFull` comes only if the history of this class or of a stripe has
+    /// fewer than two places left, or the pass has had `max_events` turns. `NoMemory` comes if an allocation fails.
     pub fn juggle(
         &self,
         alloc: Global,
@@ -41,8 +41,8 @@ impl<N: Named> Store<N> {
         ensures calls { OnOk result (pass.new.calls ≡ pass.old.calls ++ juggling_of class moment ∷ []) }
         ensures cut { OnErr result ((pass.new ≡ pass.old) ⊎ (pass.new.calls ≡ pass.old.calls ++ juggling_of class moment ∷ [])) }
         ensures turn { (pass.new.turn ≡ length (turns_of pass.new.calls)) × OnOk result (pass.new.turn ≡ pass.old.turn + 1) }
-        ensures full { IsErrOf result HistoryFull → HasSeenShort N.config pass.new.sight ⊎ (N.config.max_events ≤ pass.old.turn) }
-        ensures account { Enters (IsOfWalk N.config class) pass.old.turn pass.old.made pass.new.made }
+        ensures full { IsErrOf result HistoryFull → IsShortFor N.config class pass.new.sight ⊎ (N.config.max_events ≤ pass.old.turn) }
+        ensures account { Enters (IsOfWalk N.config class) pass.old.turn pass.new.sight pass.old.made pass.new.made }
     {
         let event = CallEvent::Juggled(Worked { class, moment });
         let mut guard = self.lock_class(rt, class);

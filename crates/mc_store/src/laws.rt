@@ -2,7 +2,7 @@
 ghost use Rattle.std.specs.Prelude.{◌≡◌, ◌<◌, ◌≤◌, ◌+◌, ◌++◌, ℕ, List, IsSomeAnd, None, Some, ◌∷◌, length, slice_get, take};
 ghost use Rattle.mc_item.specs.{Cache.visible_items, Stripe.IsDead, Stripe.cache_of};
 ghost use Rattle.mc_item.specs.declared.{call_event.CallEvent.CallEvent, class_event.ClassEvent.ClassEvent, command.Command.Command, config.Config.Config};
-ghost use Rattle.mc_item.specs.declared.{item.ClassNo.ClassNo, item.Item.Item, item.Who.Who, reply.Reply.Reply, stripe_event.StripeEvent.StripeEvent};
+ghost use Rattle.mc_item.specs.declared.{item.ClassNo.ClassNo, item.Item.Item, reply.Reply.Reply, stripe_event.StripeEvent.StripeEvent};
 ghost use Rattle.mc_item.specs.declared.{stripe_event.Cause.TheVariants.Expired, stripe_event.Cause.TheVariants.Taken, stripe_event.Did.Did};
 ghost use Rattle.mc_item.specs.declared.{stripe_event.Lost.Lost};
 ghost use Rattle.mc_item.specs.declared.stripe_event.StripeEvent.TheVariants as events;
@@ -10,7 +10,7 @@ ghost use Rattle.mc_rule.specs.{Figures.figures_of_lists, Lists.lists_of, Pairs.
 ghost use Rattle.mc_evidence.specs.{Losses.AreNoCommands, Losses.IsSameItem, Losses.WasLost, Setting.IsClass, Setting.site_in, Sound.IsSoundStore};
 ghost use Rattle.mc_board.specs.{Accounts.maker_of, Accounts.who_of, Histories.Grows};
 ghost use Rattle.mc_board.specs.declared.rule.{Note.Note, Sight.Sight};
-ghost use Rattle.mc_store.specs.{Calls.IsRepliedBy, Headline.IsBorneOut, Locked.class_lock, Locked.setting_of, Passes.PassView};
+ghost use Rattle.mc_store.specs.{Calls.IsRepliedBy, Headline.IsBorneOut, Locked.class_lock, Locked.setting_of, Passes.PassView, Passes.next_who};
 ghost use Rattle.mc_store.specs.Callers.{HasNoAnswer, IsBegun, IsCalled, moment_of, turns_of};
 ghost use Rattle.mc_store.specs.{Made.IsBegunForChunk, Made.WasCalled, Sides.ClassSide, Sides.StripeSide};
 ghost use Rattle.mc_store.specs.Finals.{AreClasses, AreItsOwn, AreItsOwnInClasses, AreStripes, FinalView, HasNoDid};
@@ -20,11 +20,10 @@ ghost use Rattle.mc_store.specs.Finals.{IsBehindClasses, IsBehindStripes, class_
 /// reply in one event, after all that the pass had seen of the stripe before the call.
 /// It holds if what the pass has seen since is a beginning of the final histories, as `Final::compare` shows.
 pub fn a_closed_store_bears_out_each_reply()
-    ensures { (config : Config) (final : FinalView) (number : ℕ) (before after last : Sight) (calls calls_new : List CallEvent) (who : Who) (command : Command)
-        (moment : ℕ) (reply : Reply)
-        → number < config.stripes → AreStripes final.board config final.stripes → IsBehindStripes last final.stripes → Grows after last
-        → IsRepliedBy config number before after calls calls_new who command moment reply
-        → IsBorneOut config final.stripes number before who command moment reply }
+    ensures { (config : Config) (final : FinalView) (number : ℕ) (before after : PassView) (last : Sight) (command : Command) (moment : ℕ) (reply : Reply)
+        → number < config.stripes → AreStripes final.board config final.stripes → IsBehindStripes last final.stripes → Grows after.sight last
+        → IsRepliedBy config number before after command moment reply
+        → IsBorneOut config final.stripes number before.sight (next_who before) command moment reply }
 {}
 
 /// Between two commands of a stripe of a closed store, items are only removed. An item that is visible later was visible earlier

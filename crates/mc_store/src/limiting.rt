@@ -1,5 +1,5 @@
 //! Setting how many chunks a class that threads share may use.
-ghost use Rattle.std.specs.Prelude.{◌≡◌, ◌<◌, ◌≤◌, ◌⊎◌, ◌+◌, ◌^◌, ◌++◌, ◌∷◌, [], IfErr, OnOk, OnErr, IsErrOf, length};
+ghost use Rattle.std.specs.Prelude.{◌≡◌, ◌<◌, ◌≤◌, ◌⊎◌, ◌+◌, ◌^◌, ◌++◌, ◌∷◌, [], OnOk, OnErr, IsErrOf, length};
 ghost use Rattle.mc_item.specs.declared.fault.Fault.TheVariants.{HistoryFull};
 ghost use Rattle.mc_evidence.specs.Setting.{IsClass};
 ghost use Rattle.mc_board.specs.Histories.{list_at};
@@ -8,7 +8,7 @@ ghost use Rattle.mc_pull.specs.Growth as classes;
 ghost use Rattle.mc_store.specs.Accounts.{Enters, StillCalls};
 ghost use Rattle.mc_store.specs.{Callers.call_events, Callers.limits_of, Callers.turns_of, Calls.HasGained};
 ghost use Rattle.mc_store.specs.Locked.{caller_place, class_lock, setting_of};
-ghost use Rattle.mc_store.specs.{Made.IsLimitCalled, Passes.next_who, Serving.HasSeenShort, Serving.IsLater, Serving.MayFailSeen};
+ghost use Rattle.mc_store.specs.{Full.LacksPlaces, Made.IsLimitCalled, Passes.next_who, Serving.IsLater, Walking.class_sight};
 
 use crate::caller::Caller;
 use crate::locked::LockedClass;
@@ -35,8 +35,9 @@ fn limit_under<N: Named>(
     ensures made { OnOk result (class.new.class.history ≡ class.old.class.history ++ limited_event who chunks ∷ []) }
     ensures stays { OnErr result (class.new.class.history ≡ class.old.class.history) }
     ensures same { classes.GainsEvents class.old.class class.new.class
-        × StillCalls (λ lock. lock ≡ class_lock N.config class.old.class.number) who.turn caller.old caller.new }
-    ensures fault { IfErr result (MayFailSeen N.config class.new.sight class.new.class) }
+        × StillCalls (λ lock place event. lock ≡ class_lock N.config class.old.class.number) who.turn (class_sight N.config class.old)
+        (class_sight N.config class.new) caller.old caller.new }
+    ensures full { IsErrOf result HistoryFull → class.new.class.max_events ≤ length class.new.class.history }
 {
     let side = &mut class.side;
     let limited = side.state.set_chunks(who, chunks);
@@ -49,8 +50,8 @@ impl<N: Named> Store<N> {
     /// Sets a class's limit of chunks, from 1 to 2^20. From then on the class is full if it has at least that many entries. A lower
     /// limit evicts nothing by itself: commands that need a chunk make room. It waits for the class's lock alone. The events that
     /// it makes are of this class alone.
-    /// After a fault the limit is what it was. `HistoryFull` comes only if a stripe's or class's history has fewer than two
-    /// places left, or the pass has had `max_events` turns. `NoMemory` comes if an allocation fails.
+    /// After a fault the limit is what it was. `HistoryFull` comes only if the class's history has no place left, or the
+    /// pass has had `max_events` turns. `NoMemory` comes if an allocation fails.
     pub fn chunks(
         &self,
         rt: &impl Wait,
@@ -70,8 +71,8 @@ impl<N: Named> Store<N> {
         ensures cut { OnErr result ((pass.new ≡ pass.old) ⊎ ((pass.new.calls ≡ pass.old.calls ++ limits_of class chunks ∷ [])
             × HasGained N.config class pass.old.sight pass.new.sight (next_who pass.old) [])) }
         ensures turn { (pass.new.turn ≡ length (turns_of pass.new.calls)) × OnOk result (pass.new.turn ≡ pass.old.turn + 1) }
-        ensures full { IsErrOf result HistoryFull → HasSeenShort N.config pass.new.sight ⊎ (N.config.max_events ≤ pass.old.turn) }
-        ensures account { Enters (λ lock. lock ≡ class_lock N.config class) pass.old.turn pass.old.made pass.new.made }
+        ensures full { IsErrOf result HistoryFull → LacksPlaces N.config pass.new.sight class 1 ⊎ (N.config.max_events ≤ pass.old.turn) }
+        ensures account { Enters (λ lock place event. lock ≡ class_lock N.config class) pass.old.turn pass.new.sight pass.old.made pass.new.made }
     {
         let event = CallEvent::Limits(Limits { class, chunks });
         let mut guard = self.lock_class(rt, class);

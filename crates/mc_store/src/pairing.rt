@@ -9,7 +9,7 @@ ghost use Rattle.mc_board.specs.Histories.{Grows, list_at};
 ghost use Rattle.mc_pull.specs.{Agreeing.AgreeNow, Perform.call};
 ghost use Rattle.mc_pull.specs.Growth as classes;
 ghost use Rattle.mc_store.specs.{Callers.IsUnanswered, Callers.answered_at, Callers.calls_told, Locked.HasBegunSearch, Locked.caller_place};
-ghost use Rattle.mc_store.specs.{Accounts.IsClassLock, Accounts.StillCalls, Sides.class_told};
+ghost use Rattle.mc_store.specs.{Accounts.IsOfStretch, Accounts.StillCalls, Accounts.stretch_of, Searches.HasSeenOf, Sides.class_told, Sides.stripe_sight};
 
 use crate::caller::Caller;
 use crate::locked::{LockedClass, LockedStripe};
@@ -33,7 +33,8 @@ pub(crate) fn meet<N: Named>(board: &Board, own: &mut LockedStripe<N>, lent: &mu
     lent.side.hear(board, &mut own.side);
 }
 
-// Adds a refusal to a full class's history, and returns its place there. The class learns of the call from the stripe.
+// Adds a refusal to a full class's history, and returns its place there. The class learns of the call from the stripe, and the stripe
+// of the refusal.
 #[inline(never)]
 pub(crate) fn refuse<N: Named>(
     board: &Board,
@@ -48,13 +49,17 @@ pub(crate) fn refuse<N: Named>(
     ensures place { IfOk result (λ place. place ≡ length lent.old.class.history) }
     ensures refused { OnOk result (Makes lent.old.class lent.new.class (refused_event who)) }
     ensures err { OnErr result (Stays lent.old.class lent.new.class) }
-    ensures same { (own.new ≡ own.old) × StillCalls (IsClassLock N.config) who.turn caller.old caller.new }
+    ensures own { (own.new ≡ record own.old { sight = own.new.sight }) × Grows own.old.sight own.new.sight
+        × HasSeenOf N.config own.new.sight lent.old.class.number lent.new.class.history }
+    ensures still { StillCalls (IsOfStretch N.config lent.old.class.number (stretch_of lent.old.class lent.new.class)) who.turn (stripe_sight own.old)
+        (stripe_sight own.new) caller.old caller.new }
     ensures full { IsErrOf result HistoryFull → lent.new.class.max_events ≤ length lent.new.class.history }
 {
     let place = lent.side.state.refuse(who);
     lent.side.state.law();
     caller.catch_up_class(board, who, &lent.side.state, &mut lent.side.owner);
     lent.side.learn(board, &mut own.side);
+    own.side.hear(board, &mut lent.side);
     place
 }
 

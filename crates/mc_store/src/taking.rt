@@ -7,6 +7,7 @@ ghost use Rattle.mc_pull.specs.declared.judge.Judge.TheVariants as judges;
 ghost use Rattle.mc_store.specs.{Accounts.IsOfWalk, Accounts.StillCalls, Callers.juggling_of, Calls.IsUpkept};
 ghost use Rattle.mc_store.specs.Hits.{IsAdvancedBy, IsAdvancedTill, MayUpkeep, Takes, queue_of};
 ghost use Rattle.mc_store.specs.{Locked.HasBegunAs, Serving.MayFailSeen, Walking.LeavesTokens, Walking.MayTry};
+ghost use Rattle.mc_store.specs.Walking.{StillWalks, class_sight};
 
 use crate::caller::Caller;
 use crate::gates::Trying;
@@ -41,7 +42,8 @@ impl<'a, N: Named> Trying<'a, N> {
         ensures fault { IfErr result (MayFailSeen N.config self.new.seen.now.sight class.new) }
         ensures references { (self.new.caller.ghost_name ≡ self.old.caller.ghost_name) × (self.new.owner.ghost_name ≡ self.old.owner.ghost_name)
             × (self.new.seen.ghost_name ≡ self.old.seen.ghost_name) }
-        ensures still { StillCalls (IsOfWalk N.config class.old.number) context.entry.turn.who.turn self.old.caller.now self.new.caller.now }
+        ensures still { StillWalks N.config class.old.number context.entry.turn.who.turn self.old.seen.now.sight self.new.seen.now.sight
+            class.old.history class.new.history self.old.caller.now self.new.caller.now }
         ensures left { LeavesTokens N.board.table N.config context.entry.turn.who context.entry.turn.moment self.old.seen.now.sight class.old
             self.new.owner.now self.new.seen.now class.new }
     {
@@ -74,7 +76,8 @@ fn advance_under<N: Named>(
     ensures class { classes.GainsEvents class.old.class class.new.class }
     ensures begun { HasBegunAs N.config class.new.sight call.entry.turn.who call.entry.turn.moment (juggling_of class.new.class.number
         call.entry.turn.moment) }
-    ensures still { StillCalls (IsOfWalk N.config class.old.class.number) call.entry.turn.who.turn caller.old caller.new }
+    ensures still { StillCalls (IsOfWalk N.config class.old.class.number) call.entry.turn.who.turn (class_sight N.config class.old)
+        (class_sight N.config class.new) caller.old caller.new }
     ensures fault { IfErr result (MayFailSeen N.config class.new.sight class.new.class) }
 {
     let store = call.store;
@@ -116,7 +119,8 @@ fn advance_hits<N: Named>(
     ensures class { classes.GainsEvents class.old.class class.new.class }
     ensures begun { HasBegunAs N.config class.new.sight call.entry.turn.who call.entry.turn.moment (juggling_of class.new.class.number
         call.entry.turn.moment) }
-    ensures still { StillCalls (IsOfWalk N.config class.old.class.number) call.entry.turn.who.turn caller.old caller.new }
+    ensures still { StillCalls (IsOfWalk N.config class.old.class.number) call.entry.turn.who.turn (class_sight N.config class.old)
+        (class_sight N.config class.new) caller.old caller.new }
     ensures fault { IfErr result (MayFailSeen N.config class.new.sight class.new.class) }
 {
     let store = call.store;
@@ -144,7 +148,8 @@ pub(crate) fn upkeep_under<N: Named>(
     ensures same { hands.new ≡ record hands.old { takings = hands.new.takings } }
     ensures few { IfOk result (λ moves. moves.reclaimed + moves.moved ≤ 10000) }
     ensures class { classes.GainsEvents class.old.class class.new.class }
-    ensures still { StillCalls (IsOfWalk N.config class.old.class.number) call.entry.turn.who.turn caller.old caller.new }
+    ensures still { StillCalls (IsOfWalk N.config class.old.class.number) call.entry.turn.who.turn (class_sight N.config class.old)
+        (class_sight N.config class.new) caller.old caller.new }
     ensures fault { IfErr result (MayFailSeen N.config class.new.sight class.new.class) }
 {
     advance_hits(call, rt, class, hands, caller)?;

@@ -38,13 +38,13 @@ pub(crate) fn try_alone<N: Named>(
 ) -> Result<Tried, Fault>
     requires asked { HasAsked caller.old task.turn.who task.command.now task.turn.moment }
     requires may { MayTryOn own.old.stripe [] task.command.now task.turn (record { home = None; other = None }) }
-    ensures tried { IfOk result (IsTriedUnder N.config own.old.stripe own.new.stripe caller.old caller.new task.entry.command.now task.entry.turn (record {
+    ensures tried { IfOk result (IsTriedUnder N.config own.old own.new caller.old caller.new task.entry.command.now task.entry.turn (record {
       home =
           None;
       other = None;
     }) [] []) }
     ensures err { OnErr result (own.new.stripe.history ≡ own.old.stripe.history) }
-    ensures unnoted { OnErr result (StillTries N.config task.entry.command.now task.entry.turn caller.old caller.new) }
+    ensures unnoted { OnErr result (StillTries N.config task.entry.turn own.old own.new caller.old caller.new) }
     ensures sees { Grows own.old.sight own.new.sight }
     ensures site { KeepsSite own.old.stripe own.new.stripe }
     ensures full { IsErrOf result HistoryFull → own.new.stripe.limit ≤ length own.new.stripe.history }
@@ -79,10 +79,10 @@ pub(crate) fn try_on_one<N: Named>(
     requires asked { HasAsked caller.old task.turn.who task.command.now task.turn.moment }
     requires may { MayTryOn own.old.stripe (class.old.class ∷ []) task.command.now task.turn given }
     requires room { HasRoomFor given class.old.class }
-    ensures tried { IfOk result (IsTriedUnder N.config own.old.stripe own.new.stripe caller.old caller.new task.entry.command.now task.entry.turn given
+    ensures tried { IfOk result (IsTriedUnder N.config own.old own.new caller.old caller.new task.entry.command.now task.entry.turn given
         (class.old ∷ []) (class.new ∷ [])) }
     ensures err { OnErr result ((own.new.stripe.history ≡ own.old.stripe.history)
-        × StillTries N.config task.entry.command.now task.entry.turn caller.old caller.new) }
+        × StillTries N.config task.entry.turn own.old own.new caller.old caller.new) }
     ensures sees { Grows own.old.sight own.new.sight }
     ensures site { KeepsSite own.old.stripe own.new.stripe }
     ensures full { IsErrOf result HistoryFull → own.new.stripe.limit ≤ length own.new.stripe.history }
@@ -132,10 +132,10 @@ pub(crate) fn try_on_two<N: Named>(
     requires asked { HasAsked caller.old task.turn.who task.command.now task.turn.moment }
     requires may { MayTryOn own.old.stripe (home.old.class ∷ other.old.class ∷ []) task.command.now task.turn given }
     requires room { HasRoomFor given home.old.class × HasRoomFor given other.old.class }
-    ensures tried { IfOk result (IsTriedUnder N.config own.old.stripe own.new.stripe caller.old caller.new task.entry.command.now task.entry.turn given
+    ensures tried { IfOk result (IsTriedUnder N.config own.old own.new caller.old caller.new task.entry.command.now task.entry.turn given
         (home.old ∷ other.old ∷ []) (home.new ∷ other.new ∷ [])) }
     ensures err { OnErr result ((own.new.stripe.history ≡ own.old.stripe.history)
-        × StillTries N.config task.entry.command.now task.entry.turn caller.old caller.new) }
+        × StillTries N.config task.entry.turn own.old own.new caller.old caller.new) }
     ensures sees { Grows own.old.sight own.new.sight }
     ensures site { KeepsSite own.old.stripe own.new.stripe }
     ensures full { IsErrOf result HistoryFull → own.new.stripe.limit ≤ length own.new.stripe.history }

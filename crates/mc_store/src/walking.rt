@@ -1,6 +1,5 @@
 //! Walks under the locks of a store: making room in a class, juggling it, removing a dead item.
 ghost use Rattle.std.specs.Prelude.{◌≡◌, ◌≤◌, ◌<◌, ◌+◌, ◌++◌, ◌∷◌, ◌⊎◌, [], List, Some, IfOk, IfErr, OnOk, OnErr, IsErrOf, false, length};
-ghost use mathlib.Core.List.{IsPrefix};
 ghost use Rattle.mc_item.specs.Command.{key_of};
 ghost use Rattle.mc_item.specs.declared.{fault.Fault.TheVariants.HistoryFull, stripe_event.Cause.TheVariants.Expired};
 ghost use Rattle.mc_stripe.specs.{Plan.dead_link, StripeCalls.KeepsSite, StripeState.cache_now};
@@ -8,18 +7,18 @@ ghost use Rattle.mc_pull.specs.Growth as classes;
 ghost use Rattle.mc_pull.specs.{Juggle.IsJuggle, Lone.StripeGrows, Rounds.IsRoom, Rounds.rounds, Settled.lost_event, Walker.walker_of};
 ghost use Rattle.mc_pull.specs.declared.looking.Answer.{Answer};
 ghost use Rattle.mc_store.specs.{
-  Accounts.IsOfCommand,
   Accounts.IsOfWalk,
   Accounts.StillCalls,
   Callers.juggling_of,
   Earned.IsSearchInVain,
   Full.LacksPlaces,
-  Serving.HasSeenShort,
+  Serving.IsShortFor,
   Serving.MayFailSeen,
-  Sides.class_told,
 };
 ghost use Rattle.mc_store.specs.{Locked.HasBegunAs, Locked.HasBegunCommand, Locked.HasBegunSearch, Walking.LeavesSearch, Walking.MayWalkWith};
-ghost use Rattle.mc_board.specs.Histories.{Grows, list_at};
+ghost use Rattle.mc_store.specs.{Accounts.stretch_of, Searches.HasSeenOf, Trying.StillSearches, Trying.StillTries, Walking.StillWalksFrom};
+ghost use Rattle.mc_store.specs.Walking.{class_sight};
+ghost use Rattle.mc_board.specs.Histories.{Grows};
 
 use crate::caller::Caller;
 use crate::gates::{Holding, Trying};
@@ -50,7 +49,8 @@ fn make_room_with<N: Named>(
         own.old.stripe owner.new seen.new class.new own.new.stripe }
     ensures tried { IfOk result (λ found. found ≡ false → IsSearchInVain N.config class.old own.old.stripe task.entry.turn.who task.entry.turn.moment
         class.new.history) }
-    ensures still { StillCalls (IsOfWalk N.config class.old.number) task.entry.turn.who.turn caller.old caller.new }
+    ensures still { (length owner.old.history ≤ length owner.new.history) × StillWalksFrom N.config class.old.number (length owner.old.history)
+        task.entry.turn.who.turn seen.old.sight seen.new.sight class.old.history class.new.history caller.old caller.new }
     ensures fault { IfErr result (MayFailSeen N.config seen.new.sight class.new) }
 {
     let store = task.store;
@@ -89,15 +89,17 @@ pub(crate) fn make_room_under<N: Named>(
         class.old.class.history xs class.new.class.history found) }
     ensures class { classes.GainsEvents class.old.class class.new.class }
     ensures leaves { StripeGrows (walker_of class.old.class task.entry.turn.who task.entry.turn.moment) own.old.stripe own.new.stripe
-        × StillCalls (IsOfWalk N.config class.old.class.number) task.entry.turn.who.turn caller.old caller.new }
+        × StillSearches N.config class.old.class.number (stretch_of class.old.class class.new.class) task.entry.turn own.old own.new caller.old
+        caller.new }
     ensures tried { IfOk result (λ found. found ≡ false → IsSearchInVain N.config class.old.class own.old.stripe task.entry.turn.who task.entry.turn.moment
         class.new.class.history) }
     ensures begun { HasBegunSearch N.config own.new.sight task.entry.turn.who task.entry.turn.moment }
-    ensures seen { IsPrefix (class_told class.old.class.history) (list_at own.new.sight.seen class.old.lock) }
-    ensures full { IsErrOf result HistoryFull → HasSeenShort N.config own.new.sight }
+    ensures seen { HasSeenOf N.config own.new.sight class.old.class.number class.new.class.history }
+    ensures full { IsErrOf result HistoryFull → IsShortFor N.config class.old.class.number own.new.sight }
 {
     let store = task.store;
     let board = &store.board;
+    own.law();
     class.learn_from(board, own);
     let side = &mut class.side;
     let found = make_room_with(
@@ -109,6 +111,7 @@ pub(crate) fn make_room_under<N: Named>(
         caller,
     );
     caller.catch_up_class(board, task.turn.who, &side.state, &mut side.owner);
+    own.side.compare(board, &mut side.seen);
     own.side.seen.learn(board, &mut side.seen);
     own.side.hear(board, side);
     found
@@ -127,7 +130,8 @@ pub(crate) fn juggle_under<N: Named>(
         class.old.class.history xs class.new.class.history moves) }
     ensures few { IfOk result (λ moves. moves.reclaimed + moves.moved ≤ 10000) }
     ensures class { classes.GainsEvents class.old.class class.new.class }
-    ensures still { StillCalls (IsOfWalk N.config class.old.class.number) call.entry.turn.who.turn caller.old caller.new }
+    ensures still { StillCalls (IsOfWalk N.config class.old.class.number) call.entry.turn.who.turn (class_sight N.config class.old)
+        (class_sight N.config class.new) caller.old caller.new }
     ensures fault { IfErr result (MayFailSeen N.config class.new.sight class.new.class) }
 {
     let store = call.store;
@@ -168,8 +172,7 @@ pub(crate) fn bury_under<N: Named>(
         task.entry.turn.moment) ∷ []) }
     ensures err { OnErr result (own.new.stripe.history ≡ own.old.stripe.history) }
     ensures sees { Grows own.old.sight own.new.sight }
-    ensures same { KeepsSite own.old.stripe own.new.stripe × StillCalls (IsOfCommand N.config own.old.stripe.site.stripe task.entry.command.now)
-        task.entry.turn.who.turn caller.old caller.new }
+    ensures same { KeepsSite own.old.stripe own.new.stripe × StillTries N.config task.entry.turn own.old own.new caller.old caller.new }
     ensures full { IsErrOf result HistoryFull → (own.new.stripe.limit < length own.new.stripe.history + 2) ⊎ LacksPlaces N.config own.new.sight link.class 2 }
 {
     let store = task.store;

@@ -2,8 +2,8 @@ use Rattle.std.proofs.Common.{rules, ◌≡◌, ap, ◌∙◌, subst, sym}
 use Rattle.std.specs.Prelude.{OnOk}
 use Rattle.mc_item.specs.declared.config.Config.{Config}
 use Rattle.mc_segment.specs.ClassState.{ClassView}
-use Rattle.mc_store.specs.{Accounts.IsOfWalk, Accounts.StillCalls, Crawls.CountsOne, Callers.crawling_of, Locked.HasBegunAs, Locked.IsLockedClass, Serving.class_side, Sides.ClassSide}
-use Rattle.mc_store.proofs.{CallerLemmas.begun_as_sees, CrawledLemmas.on_ok_more, OwnEventLemmas.gains_crawled, OwnEventLemmas.locked_gains}
+use Rattle.mc_store.specs.{Crawls.CountsOne, Callers.crawling_of, Locked.HasBegunAs, Locked.IsLockedClass, Serving.class_side, Sides.ClassSide}
+use Rattle.mc_store.proofs.{CallerLemmas.begun_as_sees, CrawledLemmas.on_ok_more, GateLemmas.still_under, OwnEventLemmas.gains_crawled, OwnEventLemmas.locked_gains}
 use Rattle.mc_store.proofs.OwnCallLemmas.{may_try_whole}
 use Rattle.mc_store.proofs.crawling.crawl_under.Goals as goal
 
@@ -44,6 +44,10 @@ returns-clause-counted g c =
 
 pub returns-clause-still : goal.returns-clause-still
 returns-clause-still g c =
-    let of : c.side.inside.state ≡ c.args.class.now.class = ap (λ (x : ClassSide). x.class) (c.side.view_is ∙ c.class.view_is) in
-    let still = subst (λ (v : ClassView). StillCalls (IsOfWalk g.N.Named.config v.number) c.args.call.turn.who.turn c.args.caller.now c.crawl.new.self.caller.now) of c.crawl.ensures.references.3 in
+    let made = c.crawl in
+    let old : ClassSide = class_side c.side.inside.owner c.side.inside.seen c.side.inside.state in
+    let new : ClassSide = class_side made.new.self.owner.now made.new.self.seen.now made.new.class in
+    let still =
+    still_under g.N.Named.config c.args.call.turn.who.turn old new c.args.class.now c.args.caller.now made.new.self.caller.now (c.side.view_is ∙ c.class.view_is)
+    (ap (λ (v : ClassView). v.number) made.ensures.left.grows.same) made.ensures.references.3 in
     search (rules, still)

@@ -1,15 +1,15 @@
 use Rattle.std.proofs.Common.{◌≡◌, ◌≢◌, ◌∙◌, ◌∷◌, [], ℕ, ap, inl, inr, refl, sym, subst, ⊎_elim}
-use Rattle.std.specs.Prelude.{IfOk, None, Some}
+use Rattle.std.specs.Prelude.{None, Some}
 use Rattle.mc_item.specs.{Command.key_of, Measure.stripe_of}
 use Rattle.mc_item.specs.declared.item.ClassNo.{ClassNo}
 use Rattle.mc_segment.specs.ClassState.{ClassView}
 use Rattle.mc_stripe.specs.{StripeState.Stripe, Trying.item_of, Trying.row_at}
 use Rattle.mc_stripe.specs.declared.wanting.Given.{Given}
 use Rattle.mc_pull.specs.{Agreeing.AgreeNow, Attempt.IsNoted, Attempt.OffersHome, Attempt.OffersOther}
-use Rattle.mc_store.specs.{Held.class_held, Held.class_number, Sides.ClassSide, Sides.StripeSide, Trying.IsTriedUnder}
-use Rattle.mc_store.proofs.HeldTryLemmas.{crowded_both, crowded_home, crowded_lacks, full_seen, heard_of, home_fits, keeps_full, noted_of, other_fits, readied, readied_class, refused_of}
-use Rattle.mc_store.proofs.HeldTryLemmas.{same_number, short_seen, taken_earned, tried_on, wants_chunk}
-use Rattle.mc_store.proofs.LockKeepsLemmas.{grows_trans}
+use Rattle.mc_store.specs.{Held.class_held, Held.class_number, Sides.ClassSide, Sides.StripeSide}
+use Rattle.mc_store.proofs.HeldTryLemmas.{crowded_both, crowded_home, crowded_lacks, err_heard, full_seen, heard_both, heard_of, home_fits, keeps_full, noted_of, other_fits, readied, readied_class, refused_of}
+use Rattle.mc_store.proofs.HeldTryLemmas.{only_heard, same_number, short_seen, taken_earned, tried_heard, tried_on, wants_chunk}
+use Rattle.mc_store.proofs.{LockKeepsLemmas.grows_trans, SeenStripeLemmas.on_err_always}
 use Rattle.mc_store.proofs.held.try_home.Goals as goal
 
 -- ---- on the class of the new version alone
@@ -74,12 +74,11 @@ returns-in_ok-ready_class-in-None-clause-tried g c =
     let at : c.state.result.now ≡ side.class = c.state.ensures ∙ ap (λ (x : ClassSide). x.class) c.side.ensures.value in
     let offers = subst (λ (v : ClassView). OffersHome v refused turn.who offer) at c.offer_home.ensures in
     let is = readied was met side c.meet.ensures.lent c.ready_class.ensures.same in
-    let same = ap (λ (x : StripeSide). x.stripe) c.meet.ensures.own in
     let for_home = ap (λ (n : ClassNo). Some n) (offers.class_is ∙ same_number table config was side met.sight side.class.room is) in
     let for_other = sym (ap class_held c.in-None.is) in
     let short = short_seen table config was side met.sight side.class.room is mid end.sight c.side.ensures.kept c.meet.ensures.told c.try_on_one.ensures.sees in
     let seen = full_seen table config was side met.sight side.class.room is mid end.sight c.side.ensures.kept c.meet.ensures.told c.try_on_one.ensures.sees in
-    tried_on config s end c.args.caller.now c.try_on_one.new.caller command turn given (side ∷ []) (new ∷ []) (Some was.class.number) (class_held c.args.other.now) _ for_home for_other
+    tried_on config c.args.own.now end c.args.caller.now c.try_on_one.new.caller command turn given (side ∷ []) (new ∷ []) (Some was.class.number) (class_held c.args.other.now) _ for_home for_other
     (λ room taken. taken_earned config s turn key side.class refused mid end.sight (heard_of table config was side met.sight side.class.room is mid c.meet.ensures.heard) c.try_on_one.ensures.sees
     (refused_of table config was side met.sight side.class.room is s turn key refused c.requires.refused) given (row_at s command turn.moment).need room offers taken)
     (λ stay lacks. (
@@ -90,7 +89,17 @@ returns-in_ok-ready_class-in-None-clause-tried g c =
     (λ stay class crowded. crowded_lacks config s end.sight command turn.moment given class crowded (side.class, refused, turn.who, offers) side.class
     (crowded_home given key (item_of s command) turn.moment (row_at s command turn.moment) class crowded side.class refused turn.who refl offers) short)
     c.try_on_one.result
-    (subst (λ (t : Stripe). IfOk c.try_on_one.result (IsTriedUnder config t end.stripe c.args.caller.now c.try_on_one.new.caller command turn given (side ∷ []) (new ∷ []))) same c.try_on_one.ensures.tried)
+    (tried_heard config c.args.own.now c.meet.new.own end c.args.caller.now c.try_on_one.new.caller command turn c.meet.ensures.own c.meet.ensures.grows given (side ∷ []) (new ∷ [])
+    c.try_on_one.result c.try_on_one.ensures.tried)
+
+pub returns-in_ok-ready_class-in-None-clause-err : goal.returns-in_ok-ready_class-in-None-clause-err
+returns-in_ok-ready_class-in-None-clause-err g c =
+    err_heard g.N.Named.config c.args.own.now c.meet.new.own c.try_on_one.new.own c.args.caller.now c.try_on_one.new.caller c.args.task.command.now c.args.task.turn c.meet.ensures.own c.meet.ensures.grows
+    c.try_on_one.result c.try_on_one.ensures.err
+
+pub returns-in_err-ready_class-in-None-clause-err : goal.returns-in_err-ready_class-in-None-clause-err
+returns-in_err-ready_class-in-None-clause-err g c =
+    on_err_always _ (only_heard g.N.Named.config c.args.task.turn c.args.own.now c.meet.new.own c.args.caller.now c.meet.ensures.own c.meet.ensures.grows)
 
 pub returns-in_ok-ready_class-in-None-clause-sees : goal.returns-in_ok-ready_class-in-None-clause-sees
 returns-in_ok-ready_class-in-None-clause-sees g c = grows_trans c.args.own.now.sight c.meet.new.own.sight c.try_on_one.new.own.sight c.meet.ensures.grows c.try_on_one.ensures.sees
@@ -210,14 +219,13 @@ returns-in_ok-ready_class-in-Some-2-clause-tried g c =
     let number_of_b = same_number table config beside side_b met_b.sight side_b.class.room is_b in
     let number_b : class_held c.args.other.now ≡ Some beside.class.number = ap class_held c.in-Some.is ∙ ap (λ (x : ClassSide). Some (class_number x)) (sym c.deref_mut-beside.ensures.value) in
     let far : side.class.number ≢ side_b.class.number = λ e. c.requires.apart (number_b ∙ ap (λ (n : ClassNo). Some n) (sym number_of_b ∙ (sym e ∙ number))) in
-    let same = ap (λ (x : StripeSide). x.stripe) c.meet-in-Some-2.ensures.own ∙ ap (λ (x : StripeSide). x.stripe) c.meet-in-Some.ensures.own in
     let for_home = ap (λ (n : ClassNo). Some n) (offers.class_is ∙ number) in
     let for_other = ap (λ (n : ClassNo). Some n) (offers_b.class_is ∙ number_of_b) ∙ sym number_b in
     let later = grows_trans mid mid_b end.sight c.meet-in-Some-2.ensures.grows c.try_on_two.ensures.sees in
     let short = short_seen table config was side met.sight side.class.room is mid end.sight c.side-in-Some.ensures.kept c.meet-in-Some.ensures.told later in
     let seen = full_seen table config was side met.sight side.class.room is mid end.sight c.side-in-Some.ensures.kept c.meet-in-Some.ensures.told later in
     let short_b = short_seen table config beside side_b met_b.sight side_b.class.room is_b mid_b end.sight c.side-in-Some-2.ensures.kept c.meet-in-Some-2.ensures.told c.try_on_two.ensures.sees in
-    tried_on config s end c.args.caller.now c.try_on_two.new.caller command turn given (side ∷ side_b ∷ []) (new ∷ new_b ∷ []) (Some was.class.number) (class_held c.args.other.now) _ for_home for_other
+    tried_on config c.args.own.now end c.args.caller.now c.try_on_two.new.caller command turn given (side ∷ side_b ∷ []) (new ∷ new_b ∷ []) (Some was.class.number) (class_held c.args.other.now) _ for_home for_other
     (λ room taken. taken_earned config s turn key side.class refused mid end.sight (heard_of table config was side met.sight side.class.room is mid c.meet-in-Some.ensures.heard) later
     (refused_of table config was side met.sight side.class.room is s turn key refused c.requires.refused) given (row_at s command turn.moment).need room offers taken)
     (λ stay lacks. (
@@ -230,8 +238,31 @@ returns-in_ok-ready_class-in-Some-2-clause-tried g c =
     (λ lacks. crowded_lacks config s end.sight command turn.moment given class crowded (side.class, refused, turn.who, offers) side_b.class lacks short_b)
     (crowded_both given key (item_of s command) turn.moment (row_at s command turn.moment) class crowded side.class side_b.class refused turn.who far offers offers_b))
     c.try_on_two.result
-    (subst (λ (t : Stripe). IfOk c.try_on_two.result (IsTriedUnder config t end.stripe c.args.caller.now c.try_on_two.new.caller command turn given (side ∷ side_b ∷ []) (new ∷ new_b ∷ []))) same
-    c.try_on_two.ensures.tried)
+    (tried_heard config c.args.own.now c.meet-in-Some-2.new.own end c.args.caller.now c.try_on_two.new.caller command turn
+    (heard_both c.args.own.now c.meet-in-Some.new.own c.meet-in-Some-2.new.own c.meet-in-Some.ensures.own c.meet-in-Some-2.ensures.own)
+    (grows_trans c.args.own.now.sight mid mid_b c.meet-in-Some.ensures.grows c.meet-in-Some-2.ensures.grows) given (side ∷ side_b ∷ []) (new ∷ new_b ∷ [])
+    c.try_on_two.result c.try_on_two.ensures.tried)
+
+pub returns-in_ok-ready_class-in-Some-2-clause-err : goal.returns-in_ok-ready_class-in-Some-2-clause-err
+returns-in_ok-ready_class-in-Some-2-clause-err g c =
+    err_heard g.N.Named.config c.args.own.now c.meet-in-Some-2.new.own c.try_on_two.new.own c.args.caller.now c.try_on_two.new.caller c.args.task.command.now c.args.task.turn
+    (heard_both c.args.own.now c.meet-in-Some.new.own c.meet-in-Some-2.new.own c.meet-in-Some.ensures.own c.meet-in-Some-2.ensures.own)
+    (grows_trans c.args.own.now.sight c.meet-in-Some.new.own.sight c.meet-in-Some-2.new.own.sight c.meet-in-Some.ensures.grows c.meet-in-Some-2.ensures.grows)
+    c.try_on_two.result c.try_on_two.ensures.err
+
+pub returns-in_err-ready_class-in-Some-clause-err : goal.returns-in_err-ready_class-in-Some-clause-err
+returns-in_err-ready_class-in-Some-clause-err g c =
+    on_err_always _
+    (only_heard g.N.Named.config c.args.task.turn c.args.own.now c.meet-in-Some-2.new.own c.args.caller.now
+    (heard_both c.args.own.now c.meet-in-Some.new.own c.meet-in-Some-2.new.own c.meet-in-Some.ensures.own c.meet-in-Some-2.ensures.own)
+    (grows_trans c.args.own.now.sight c.meet-in-Some.new.own.sight c.meet-in-Some-2.new.own.sight c.meet-in-Some.ensures.grows c.meet-in-Some-2.ensures.grows))
+
+pub returns-in_err-ready_class-in-Some-2-clause-err : goal.returns-in_err-ready_class-in-Some-2-clause-err
+returns-in_err-ready_class-in-Some-2-clause-err g c =
+    on_err_always _
+    (only_heard g.N.Named.config c.args.task.turn c.args.own.now c.meet-in-Some-2.new.own c.args.caller.now
+    (heard_both c.args.own.now c.meet-in-Some.new.own c.meet-in-Some-2.new.own c.meet-in-Some.ensures.own c.meet-in-Some-2.ensures.own)
+    (grows_trans c.args.own.now.sight c.meet-in-Some.new.own.sight c.meet-in-Some-2.new.own.sight c.meet-in-Some.ensures.grows c.meet-in-Some-2.ensures.grows))
 
 pub returns-in_ok-ready_class-in-Some-2-clause-sees : goal.returns-in_ok-ready_class-in-Some-2-clause-sees
 returns-in_ok-ready_class-in-Some-2-clause-sees g c =

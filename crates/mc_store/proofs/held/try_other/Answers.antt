@@ -1,14 +1,14 @@
 use Rattle.std.proofs.Common.{◌≡◌, ◌∙◌, ◌∷◌, [], ap, refl, subst}
-use Rattle.std.specs.Prelude.{IfOk, None, Some}
+use Rattle.std.specs.Prelude.{None, Some}
 use Rattle.mc_item.specs.Command.{key_of}
 use Rattle.mc_item.specs.declared.item.ClassNo.{ClassNo}
 use Rattle.mc_segment.specs.ClassState.{ClassView}
-use Rattle.mc_stripe.specs.{StripeState.Stripe, Trying.item_of, Trying.row_at}
+use Rattle.mc_stripe.specs.Trying.{item_of, row_at}
 use Rattle.mc_stripe.specs.declared.wanting.Given.{Given}
 use Rattle.mc_pull.specs.Attempt.{OffersOther}
-use Rattle.mc_store.specs.{Sides.ClassSide, Sides.StripeSide, Trying.IsTriedUnder}
-use Rattle.mc_store.proofs.HeldTryLemmas.{crowded_lacks, crowded_other, none_earned, other_fits, readied, same_number, short_seen, tried_on}
-use Rattle.mc_store.proofs.LockKeepsLemmas.{grows_trans}
+use Rattle.mc_store.specs.Sides.{ClassSide}
+use Rattle.mc_store.proofs.HeldTryLemmas.{crowded_lacks, crowded_other, err_heard, none_earned, only_heard, other_fits, readied, same_number, short_seen, tried_heard, tried_on}
+use Rattle.mc_store.proofs.{LockKeepsLemmas.grows_trans, SeenStripeLemmas.on_err_always}
 use Rattle.mc_store.proofs.held.try_other.Goals as goal
 
 pub try_on_one-requires-clause-room : goal.try_on_one-requires-clause-room
@@ -32,8 +32,7 @@ returns-clause-tried g c =
     let at : c.state.result.now ≡ side.class = c.state.ensures ∙ ap (λ (x : ClassSide). x.class) c.side.ensures.value in
     let offers = subst (λ (v : ClassView). OffersOther v offer) at c.offer_other.ensures in
     let is = readied was met side c.meet.ensures.lent c.ready_class.ensures.same in
-    let same = ap (λ (x : StripeSide). x.stripe) c.meet.ensures.own in
-    tried_on config s end c.args.caller.now c.try_on_one.new.caller command turn given (side ∷ []) (c.try_on_one.new.class ∷ []) None (Some was.class.number) ⊥
+    tried_on config c.args.own.now end c.args.caller.now c.try_on_one.new.caller command turn given (side ∷ []) (c.try_on_one.new.class ∷ []) None (Some was.class.number) ⊥
     refl (ap (λ (n : ClassNo). Some n) (offers.class_is ∙ same_number table config was side met.sight side.class.room is))
     (λ room taken. none_earned config s turn (key_of command) end.sight given (row_at s command turn.moment).need room refl taken)
     (λ stay lacks. absurd lacks.none)
@@ -41,8 +40,17 @@ returns-clause-tried g c =
     (crowded_other given (key_of command) (item_of s command) turn.moment (row_at s command turn.moment) class crowded side.class refl offers)
     (short_seen table config was side met.sight side.class.room is c.meet.new.own.sight end.sight c.side.ensures.kept c.meet.ensures.told c.try_on_one.ensures.sees))
     c.try_on_one.result
-    (subst (λ (t : Stripe). IfOk c.try_on_one.result (IsTriedUnder config t end.stripe c.args.caller.now c.try_on_one.new.caller command turn given (side ∷ []) (c.try_on_one.new.class ∷ []))) same
-    c.try_on_one.ensures.tried)
+    (tried_heard config c.args.own.now c.meet.new.own end c.args.caller.now c.try_on_one.new.caller command turn c.meet.ensures.own c.meet.ensures.grows given (side ∷ []) (c.try_on_one.new.class ∷ [])
+    c.try_on_one.result c.try_on_one.ensures.tried)
+
+pub returns-clause-err : goal.returns-clause-err
+returns-clause-err g c =
+    err_heard g.N.Named.config c.args.own.now c.meet.new.own c.try_on_one.new.own c.args.caller.now c.try_on_one.new.caller c.args.task.command.now c.args.task.turn c.meet.ensures.own c.meet.ensures.grows
+    c.try_on_one.result c.try_on_one.ensures.err
+
+pub returns-in_err-ready_class-clause-err : goal.returns-in_err-ready_class-clause-err
+returns-in_err-ready_class-clause-err g c =
+    on_err_always _ (only_heard g.N.Named.config c.args.task.turn c.args.own.now c.meet.new.own c.args.caller.now c.meet.ensures.own c.meet.ensures.grows)
 
 pub returns-clause-sees : goal.returns-clause-sees
 returns-clause-sees g c = grows_trans c.args.own.now.sight c.meet.new.own.sight c.try_on_one.new.own.sight c.meet.ensures.grows c.try_on_one.ensures.sees

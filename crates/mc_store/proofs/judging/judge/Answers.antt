@@ -6,7 +6,7 @@ use Rattle.mc_board.specs.Views.{OwnerView}
 use Rattle.mc_stripe.specs.StripeState.{Stripe}
 use Rattle.mc_store.specs.{Looked.IsKnown, Passes.CallerView, Serving.MayFailSeen, Sides.StripeSide, Locked.HasBegun}
 use Rattle.mc_store.specs.declared.locked.LockedStripe.TheInside.{Inside}
-use Rattle.mc_store.proofs.JudgedEntryLemmas.{class_judged, fault_judged, known_judged, still_judged, stripe_judged}
+use Rattle.mc_store.proofs.JudgedEntryLemmas.{class_judged, fault_judged, known_judged, owner_judged, still_judged, stripe_judged}
 use Rattle.mc_store.proofs.{SyncedStepLemmas.class_told_more, SyncedStepLemmas.handed_on, SyncedStepLemmas.settled_grows, SyncedStepLemmas.settled_told, LockKeepsLemmas.grows_trans}
 use Rattle.mc_store.proofs.OwnCallLemmas.{class_settled_by, stripe_walked_by}
 use Rattle.mc_store.proofs.judging.judge.Goals as goal
@@ -40,13 +40,16 @@ returns-in_err-done-clause-still g c =
     let lent = c.stripe-inside-2.inside.0.0 in
     let own_is = ap (λ (l : Inside g.row.N.Denot). l.side) c.stripe-inside.view_is in
     let lent_is = ap (λ (l : Inside g.row.N.Denot). l.side) c.stripe-inside-2.view_is in
+    let grows = settled_grows _ _ _ _ (question_of c.args.look.now.ask) c.settle-done.result c.settle-done.ensures.settled c.settle-done.ensures.err in
     still_judged g.N.Named.board.table g.N.Named.config c.stripe.inside.side c.stripe.invariant own.state own.owner own.seen own_is
     c.args.owner.now c.args.seen.now c.args.look.now.class.now c.requires.look.served c.catch_up_class.new.owner c.tell.new.self c.catch_up_class.ensures.told c.tell.ensures.same
     c.tell.new.seen c.tell.ensures.whole c.tell.ensures.grows c.tell-2.new.self c.tell-2.new.seen c.tell-2.ensures.same c.tell-2.ensures.told c.tell-2.ensures.grows
     lent.state lent.owner lent.seen lent_is
+    c.settle-done.new.stripe c.settle-done.new.self.class.now c.settle-done.ensures.keeps.site grows c.history.ensures.legal c.law.ensures.lawful c.settle-done.ensures.keeps.agreement c.settle-done.ensures.keeps.sight
+    c.catch_up_stripe.new.owner c.catch_up_stripe.ensures.told c.catch_up_class-2.new.owner c.tell-3.new.self c.catch_up_class-2.ensures.told c.tell-3.ensures.same
+    c.tell-3.new.seen c.tell-3.ensures.whole c.tell-3.ensures.grows c.tell-4.new.self c.tell-4.new.seen c.tell-4.ensures.same c.tell-4.ensures.told c.tell-4.ensures.grows
     c.args.caller.now c.catch_up_class.new.self c.catch_up_stripe.new.self c.catch_up_class-2.new.self c.args.look.now.ask.who.turn
-    (length c.args.owner.now.history) (length c.args.look.now.class.now.history) (length lent.owner.history) (length c.settle-done.new.stripe.history)
-    (length c.tell.new.self.history) (length c.settle-done.new.self.class.now.history)
+    (length lent.owner.history)
     c.catch_up_class.ensures.entered c.catch_up_stripe.ensures.entered c.catch_up_class-2.ensures.entered
 
 pub returns-clause-still : goal.returns-clause-still
@@ -55,14 +58,47 @@ returns-clause-still g c =
     let lent = c.stripe-inside-2.inside.0.0 in
     let own_is = ap (λ (l : Inside g.row.N.Denot). l.side) c.stripe-inside.view_is in
     let lent_is = ap (λ (l : Inside g.row.N.Denot). l.side) c.stripe-inside-2.view_is in
+    let grows = settled_grows _ _ _ _ (question_of c.args.look.now.ask) c.settle-done.result c.settle-done.ensures.settled c.settle-done.ensures.err in
     still_judged g.N.Named.board.table g.N.Named.config c.stripe.inside.side c.stripe.invariant own.state own.owner own.seen own_is
     c.args.owner.now c.args.seen.now c.args.look.now.class.now c.requires.look.served c.catch_up_class.new.owner c.tell.new.self c.catch_up_class.ensures.told c.tell.ensures.same
     c.tell.new.seen c.tell.ensures.whole c.tell.ensures.grows c.tell-2.new.self c.tell-2.new.seen c.tell-2.ensures.same c.tell-2.ensures.told c.tell-2.ensures.grows
     lent.state lent.owner lent.seen lent_is
+    c.settle-done.new.stripe c.settle-done.new.self.class.now c.settle-done.ensures.keeps.site grows c.history.ensures.legal c.law.ensures.lawful c.settle-done.ensures.keeps.agreement c.settle-done.ensures.keeps.sight
+    c.catch_up_stripe.new.owner c.catch_up_stripe.ensures.told c.catch_up_class-2.new.owner c.tell-3.new.self c.catch_up_class-2.ensures.told c.tell-3.ensures.same
+    c.tell-3.new.seen c.tell-3.ensures.whole c.tell-3.ensures.grows c.tell-4.new.self c.tell-4.new.seen c.tell-4.ensures.same c.tell-4.ensures.told c.tell-4.ensures.grows
     c.args.caller.now c.catch_up_class.new.self c.catch_up_stripe.new.self c.catch_up_class-2.new.self c.args.look.now.ask.who.turn
-    (length c.args.owner.now.history) (length c.args.look.now.class.now.history) (length lent.owner.history) (length c.settle-done.new.stripe.history)
-    (length c.tell.new.self.history) (length c.settle-done.new.self.class.now.history)
+    (length lent.owner.history)
     c.catch_up_class.ensures.entered c.catch_up_stripe.ensures.entered c.catch_up_class-2.ensures.entered
+
+pub returns-clause-owner : goal.returns-clause-owner
+returns-clause-owner g c =
+    let own = c.stripe-inside.inside.0.0 in
+    let lent = c.stripe-inside-2.inside.0.0 in
+    let own_is = ap (λ (l : Inside g.row.N.Denot). l.side) c.stripe-inside.view_is in
+    let lent_is = ap (λ (l : Inside g.row.N.Denot). l.side) c.stripe-inside-2.view_is in
+    let grows = settled_grows _ _ _ _ (question_of c.args.look.now.ask) c.settle-done.result c.settle-done.ensures.settled c.settle-done.ensures.err in
+    owner_judged g.N.Named.board.table g.N.Named.config c.stripe.inside.side c.stripe.invariant own.state own.owner own.seen own_is
+    c.args.owner.now c.args.seen.now c.args.look.now.class.now c.requires.look.served c.catch_up_class.new.owner c.tell.new.self c.catch_up_class.ensures.told c.tell.ensures.same
+    c.tell.new.seen c.tell.ensures.whole c.tell.ensures.grows c.tell-2.new.self c.tell-2.new.seen c.tell-2.ensures.same c.tell-2.ensures.told c.tell-2.ensures.grows
+    lent.state lent.owner lent.seen lent_is
+    c.settle-done.new.stripe c.settle-done.new.self.class.now c.settle-done.ensures.keeps.site grows c.history.ensures.legal c.law.ensures.lawful c.settle-done.ensures.keeps.agreement c.settle-done.ensures.keeps.sight
+    c.catch_up_stripe.new.owner c.catch_up_stripe.ensures.told c.catch_up_class-2.new.owner c.tell-3.new.self c.catch_up_class-2.ensures.told c.tell-3.ensures.same
+    c.tell-3.new.seen c.tell-3.ensures.whole c.tell-3.ensures.grows c.tell-4.new.self c.tell-4.new.seen c.tell-4.ensures.same c.tell-4.ensures.told c.tell-4.ensures.grows
+
+pub returns-in_err-done-clause-owner : goal.returns-in_err-done-clause-owner
+returns-in_err-done-clause-owner g c =
+    let own = c.stripe-inside.inside.0.0 in
+    let lent = c.stripe-inside-2.inside.0.0 in
+    let own_is = ap (λ (l : Inside g.row.N.Denot). l.side) c.stripe-inside.view_is in
+    let lent_is = ap (λ (l : Inside g.row.N.Denot). l.side) c.stripe-inside-2.view_is in
+    let grows = settled_grows _ _ _ _ (question_of c.args.look.now.ask) c.settle-done.result c.settle-done.ensures.settled c.settle-done.ensures.err in
+    owner_judged g.N.Named.board.table g.N.Named.config c.stripe.inside.side c.stripe.invariant own.state own.owner own.seen own_is
+    c.args.owner.now c.args.seen.now c.args.look.now.class.now c.requires.look.served c.catch_up_class.new.owner c.tell.new.self c.catch_up_class.ensures.told c.tell.ensures.same
+    c.tell.new.seen c.tell.ensures.whole c.tell.ensures.grows c.tell-2.new.self c.tell-2.new.seen c.tell-2.ensures.same c.tell-2.ensures.told c.tell-2.ensures.grows
+    lent.state lent.owner lent.seen lent_is
+    c.settle-done.new.stripe c.settle-done.new.self.class.now c.settle-done.ensures.keeps.site grows c.history.ensures.legal c.law.ensures.lawful c.settle-done.ensures.keeps.agreement c.settle-done.ensures.keeps.sight
+    c.catch_up_stripe.new.owner c.catch_up_stripe.ensures.told c.catch_up_class-2.new.owner c.tell-3.new.self c.catch_up_class-2.ensures.told c.tell-3.ensures.same
+    c.tell-3.new.seen c.tell-3.ensures.whole c.tell-3.ensures.grows c.tell-4.new.self c.tell-4.new.seen c.tell-4.ensures.same c.tell-4.ensures.told c.tell-4.ensures.grows
 
 pub catch_up_class-requires-2-clause-behind : goal.catch_up_class-requires-2-clause-behind
 catch_up_class-requires-2-clause-behind g c =

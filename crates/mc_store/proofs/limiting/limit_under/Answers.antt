@@ -4,9 +4,9 @@ use Rattle.mc_board.specs.{Histories.Grows, Histories.list_at, Views.OwnerView}
 use Rattle.mc_board.proofs.PrefixLemmas.{prefix_self}
 use Rattle.mc_segment.specs.{ClassCalls.limited_event, ClassState.ClassView}
 use Rattle.mc_pull.specs.Growth as classes
-use Rattle.mc_store.specs.{Callers.call_events, Locked.IsLockedClass, Locked.caller_place, Locked.class_lock, Made.IsLimitCalled, Serving.class_side, Sides.ClassSide}
-use Rattle.mc_store.proofs.{LentClassLemmas.class_behind, LimitedClassLemmas.limit_fails, LimitedClassLemmas.limit_made, LimitedClassLemmas.limit_stays, LimitedClassLemmas.locked_limited, NotedRefusalLemmas.noted_grows}
-use Rattle.mc_store.proofs.AccountLemmas.{still_new}
+use Rattle.mc_store.specs.{Callers.call_events, Locked.IsLockedClass, Locked.caller_place, Made.IsLimitCalled, Serving.class_side, Sides.ClassSide}
+use Rattle.mc_store.proofs.LimitedClassLemmas.{limit_full, limit_made, limit_stays, locked_limited, still_limited}
+use Rattle.mc_store.proofs.{LentClassLemmas.class_behind, NotedRefusalLemmas.noted_grows}
 use Rattle.mc_store.proofs.OwnCallLemmas.{class_noted_by}
 use Rattle.mc_store.proofs.limiting.limit_under.Goals as goal
 
@@ -53,17 +53,17 @@ returns-clause-same g c =
     let made = c.set_chunks-limited in
     let raw = c.side.inside in
     let kept : IsLockedClass g.N.Named.board.table config (class_side raw.owner raw.seen raw.state) = subst (IsLockedClass g.N.Named.board.table config) (sym c.side.view_is) c.class.invariant in
-    let of : c.side.inside.state ≡ c.args.class.now.class = ap (λ (x : ClassSide). x.class) (c.side.view_is ∙ c.class.view_is) in (
-      subst (λ (v : ClassView). classes.GainsEvents v made.new.self) of
-          (noted_grows raw.state made.new.self (limited_event c.args.who c.args.chunks) made.result made.ensures.ok made.ensures.err),
-      still_new (λ lock. lock ≡ class_lock config c.args.class.now.class.number) c.args.caller.now c.catch_up_class.new.self c.args.who.turn raw.owner.lock (length raw.owner.history)
-          (length made.new.self.history) c.catch_up_class.ensures.entered (kept.held.lock_is ∙ ap (λ (v : ClassView). class_lock config v.number) of),
+    let of : c.side.inside.state ≡ c.args.class.now.class = ap (λ (x : ClassSide). x.class) (c.side.view_is ∙ c.class.view_is) in
+    let grows = noted_grows raw.state made.new.self (limited_event c.args.who c.args.chunks) made.result made.ensures.ok made.ensures.err in (
+      subst (λ (v : ClassView). classes.GainsEvents v made.new.self) of grows,
+      still_limited config c.args.who.turn (class_side raw.owner raw.seen raw.state) c.args.class.now made.new.self c.args.caller.now c.catch_up_class.new.self (length raw.owner.history)
+          (c.side.view_is ∙ c.class.view_is) kept.held.lock_is grows c.catch_up_class.ensures.entered,
     )
 
-pub returns-clause-fault : goal.returns-clause-fault
-returns-clause-fault g c =
+pub returns-clause-full : goal.returns-clause-full
+returns-clause-full g c = λ is.
     let made = c.set_chunks-limited in
-    limit_fails g.N.Named.config c.side.inside.seen.sight c.side.inside.state made.new.self made.result made.ensures.refusal made.ensures.err
+    limit_full c.side.inside.state made.new.self made.result made.ensures.refusal made.ensures.err is
 
 pub returns-clause-stays : goal.returns-clause-stays
 returns-clause-stays g c =

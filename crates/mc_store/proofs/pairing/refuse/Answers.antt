@@ -1,11 +1,13 @@
-use Rattle.std.proofs.Common.{rules, ap, refl, sym, subst}
+use Rattle.std.proofs.Common.{◌≡◌, ◌≤◌, ◌∙◌, List, ap, arith, length, refl, sym, subst}
+use Rattle.mc_item.specs.declared.{event.Event.Event, event.Event.TheVariants.Class}
 use Rattle.mc_board.specs.{Histories.Grows, Histories.list_at, Views.OwnerView}
 use Rattle.mc_board.proofs.PrefixLemmas.{prefix_self}
 use Rattle.mc_segment.specs.{ClassCalls.refused_event, ClassState.ClassView}
-use Rattle.mc_store.specs.{Accounts.IsClassLock, Locked.HasBegunSearch, Locked.IsLockedClass, Serving.class_side, Sides.ClassSide, Sides.StripeSide}
-use Rattle.mc_store.proofs.{AccountLemmas.still_new, EnteredLemmas.is_class_lock}
+use Rattle.mc_store.specs.{Accounts.IsClassLock, Accounts.stretch_of, Locked.HasBegunSearch, Locked.IsLockedClass, Locked.IsLockedStripe, Locked.class_lock}
+use Rattle.mc_store.specs.{Serving.class_side, Sides.ClassSide, Sides.StripeSide, Sides.stripe_sight}
+use Rattle.mc_store.proofs.{AccountLemmas.still_walked, EnteredLemmas.heard_long, EnteredLemmas.heard_more, EnteredLemmas.is_class_lock, EnteredLemmas.lock_apart, LockKeepsLemmas.stripe_sees}
 use Rattle.mc_store.proofs.{CallerLemmas.search_sees, OwnEventLemmas.gains_refused, OwnEventLemmas.locked_told, LentClassLemmas.class_behind, NotedRefusalLemmas.noted_grows}
-use Rattle.mc_store.proofs.{NotedRefusalLemmas.refused_after, OwnCallLemmas.class_noted_by}
+use Rattle.mc_store.proofs.{NotedRefusalLemmas.refused_after, NotedRefusalLemmas.refused_heard, NotedRefusalLemmas.refused_seen, OwnCallLemmas.class_noted_by, SyncedStepLemmas.map_length}
 use Rattle.mc_store.proofs.pairing.refuse.Goals as goal
 
 pub catch_up_class-requires-clause-behind : goal.catch_up_class-requires-clause-behind
@@ -39,16 +41,57 @@ invariant_of-lent g c =
     let moment = c.requires.begun.0.0 in
     let begun = search_sees config c.own.inside.side.sight c.learn.new.self.sight c.args.who moment c.learn.ensures.learnt
     (subst (λ (x : StripeSide). HasBegunSearch config x.sight c.args.who moment) (sym c.own.view_is) c.requires.begun.0.1) in
-    locked_told table config old mid mid c.learn.new.self c.args.who moment kept (record { command = begun.command; begun = begun.begun })
+    subst (IsLockedClass table config) (sym c.hear.ensures.class)
+    (locked_told table config old mid mid c.learn.new.self c.args.who moment kept (record { command = begun.command; begun = begun.begun })
     (gains_refused begun.command begun.needs raw.state c.refuse-place.new.self c.args.who moment c.refuse-place.result c.refuse-place.ensures.ok c.refuse-place.ensures.err)
     (ap (λ (v : ClassView). v.number) (noted_grows raw.state c.refuse-place.new.self (refused_event c.args.who) c.refuse-place.result c.refuse-place.ensures.ok
-    c.refuse-place.ensures.err).same) refl refl none held c.learn.ensures.class c.learn.ensures.grows
+    c.refuse-place.ensures.err).same) refl refl none held c.learn.ensures.class c.learn.ensures.grows)
 
-pub returns-clause-same : goal.returns-clause-same
-returns-clause-same g c =
+pub invariant_of-own : goal.invariant_of-own
+invariant_of-own g c =
+    let own = c.own.inside.side in
+    let heard = c.hear.new.self in
+    let told = refused_heard own c.learn.new.stripe heard _ c.learn.ensures.stripe c.hear.ensures.told c.hear.ensures.grows in
+    subst (IsLockedStripe g.N.Named.board.table g.N.Named.config) (sym told.0) (stripe_sees g.N.Named.board.table g.N.Named.config own heard.sight told.1 c.own.invariant)
+
+pub returns-clause-own : goal.returns-clause-own
+returns-clause-own g c =
+    let config = g.N.Named.config in
+    let raw = c.lent-inside.inside.0.0 in
+    let heard = c.hear.new.self in
+    let lent_is = ap (λ i. i.side) c.lent-inside.view_is in
+    let kept : IsLockedClass g.N.Named.board.table config (class_side raw.owner raw.seen raw.state) = subst (IsLockedClass g.N.Named.board.table config) (sym lent_is) c.lent.invariant in
+    let lock = ap (λ (x : ClassSide). x.lock) c.learn.ensures.class ∙ ap (λ (o : OwnerView). o.lock) c.catch_up_class.ensures.told in
+    let met = subst (λ (x : StripeSide). (heard ≡ record x { sight = heard.sight }) × Grows x.sight heard.sight) c.own.view_is
+    (refused_heard c.own.inside.side c.learn.new.stripe heard _ c.learn.ensures.stripe c.hear.ensures.told c.hear.ensures.grows) in (
+      met.0,
+      met.1,
+      refused_seen config c.args.lent.now.class.number c.learn.new.stripe heard c.learn.new.self c.hear.new.class c.hear.ensures.told c.hear.ensures.class
+          (lock ∙ (kept.held.lock_is ∙ ap (λ (x : ClassSide). class_lock config x.class.number) (lent_is ∙ c.lent.view_is))),
+    )
+
+pub returns-clause-still : goal.returns-clause-still
+returns-clause-still g c =
     let table = g.N.Named.board.table in
     let config = g.N.Named.config in
     let raw = c.lent-inside.inside.0.0 in
-    let kept : IsLockedClass table config (class_side raw.owner raw.seen raw.state) = subst (IsLockedClass table config) (sym (ap (λ i. i.side) c.lent-inside.view_is)) c.lent.invariant in
-    let lock = subst (IsClassLock config) (sym kept.held.lock_is) (is_class_lock config raw.state.number kept.held.is) in
-    (search rules, still_new (IsClassLock config) c.args.caller.now c.catch_up_class.new.self c.args.who.turn raw.owner.lock _ _ c.catch_up_class.ensures.entered lock)
+    let own = c.own.inside.side in
+    let heard = c.hear.new.self in
+    let made = c.refuse-place.new.self.history in
+    let lent_is = ap (λ i. i.side) c.lent-inside.view_is in
+    let kept : IsLockedClass table config (class_side raw.owner raw.seen raw.state) = subst (IsLockedClass table config) (sym lent_is) c.lent.invariant in
+    let of = subst (IsClassLock config) (sym kept.held.lock_is) (is_class_lock config raw.state.number kept.held.is) in
+    let apart = lock_apart config raw.owner.lock c.learn.new.stripe.lock own.stripe.site.stripe of (ap (λ (x : StripeSide). x.lock) c.learn.ensures.stripe ∙ c.own.invariant.lock_is) c.own.invariant.of in
+    let lock = ap (λ (x : ClassSide). x.lock) c.learn.ensures.class ∙ ap (λ (o : OwnerView). o.lock) c.catch_up_class.ensures.told in
+    let long = heard_long c.learn.new.stripe heard c.learn.new.self raw.owner.lock made c.hear.ensures.told lock (ap (λ (x : ClassSide). x.class.history) c.learn.ensures.class) apart in
+    let told = refused_heard own c.learn.new.stripe heard _ c.learn.ensures.stripe c.hear.ensures.told c.hear.ensures.grows in
+    let grows = subst (λ (x : StripeSide). Grows (stripe_sight x) (stripe_sight heard)) c.own.view_is (heard_more own heard told.0 told.1) in
+    let was = c.args.lent.now.class in
+    let now = c.hear.new.class.class in
+    let first : length raw.owner.history ≡ length was.history =
+    ap (λ (l : List Event). length l) c.lent-inside.invariant.0 ∙ (map_length Class raw.state.history ∙ ap (λ (x : ClassSide). length x.class.history) (lent_is ∙ c.lent.view_is)) in
+    let last : length now.history ≡ length made = ap (λ (x : ClassSide). length x.class.history) (c.hear.ensures.class ∙ c.learn.ensures.class) in
+    let low : length was.history ≤ length raw.owner.history = omega (arith, first) in
+    let high : length made ≤ length now.history = omega (arith, last) in
+    still_walked config was.number (stretch_of was now) c.args.caller.now c.catch_up_class.new.self c.args.who.turn raw.owner.lock (length raw.owner.history) (length made)
+    c.catch_up_class.ensures.entered grows long (kept.held.lock_is ∙ ap (λ (x : ClassSide). class_lock config x.class.number) (lent_is ∙ c.lent.view_is)) (low, high)

@@ -3,7 +3,7 @@ use Rattle.mc_item.specs.declared.item.ClassNo.{ClassNo}
 use Rattle.mc_hits.specs.Views.{HandsView}
 use Rattle.mc_segment.specs.ClassState.{ClassView}
 use Rattle.mc_pull.proofs.GrowthLemmas.{grows_both, grows_itself}
-use Rattle.mc_store.specs.{Accounts.IsOfWalk, Accounts.StillCalls, Hits.IsAdvancedTill, Hits.queue_of, Sides.ClassSide}
+use Rattle.mc_store.specs.{Accounts.IsOfWalk, Accounts.StillCalls, Hits.IsAdvancedTill, Hits.queue_of, Sides.ClassSide, Walking.class_sight}
 use Rattle.mc_store.proofs.AccountLemmas.{still_both, still_none}
 use Rattle.mc_store.proofs.{SeenStripeLemmas.on_err_always, TakenHitLemmas.AreSoFar, TakenHitLemmas.hands_more, TakenHitLemmas.so_far_cut, TakenHitLemmas.so_far_more, TakenHitLemmas.so_far_none}
 use Rattle.mc_store.proofs.taking.advance_hits.Goals as goal
@@ -30,7 +30,7 @@ hits-init g c =
       c.requires.upkeep.begun,
       grows_itself class,
       so_far_none (queue_of class.number) turn c.args.hands.now class.history,
-      still_none (IsOfWalk g.N.Named.config class.number) turn.who.turn c.args.caller.now,
+      still_none (IsOfWalk g.N.Named.config class.number) turn.who.turn {sight = class_sight g.N.Named.config c.args.class.now} c.args.caller.now,
     )
 
 pub hits-preserved : goal.hits-preserved
@@ -51,7 +51,9 @@ hits-preserved g c =
           (so_far_more (queue_of c.number.result) turn c.args.hands.now c.hits.hands c.take.new.hands old mid new c.hits.counter so c.in-Some.hit c.in-Some.ensures.once c.in-Some.ensures.taken
           c.in_ok-advance_under.field-0 c.in_ok-advance_under.ensures.moves),
       still_both (IsOfWalk config c.args.class.now.class.number) turn.who.turn c.args.caller.now c.hits.caller c.advance_under.new.caller i.5
-          (subst (λ (n : ClassNo). StillCalls (IsOfWalk config n) turn.who.turn c.hits.caller c.advance_under.new.caller) (ap (λ (v : ClassView). v.number) i.3.same) c.advance_under.ensures.still),
+          (subst
+          (λ (n : ClassNo). StillCalls (IsOfWalk config n) turn.who.turn (class_sight config c.hits.class) (class_sight config c.advance_under.new.class) c.hits.caller c.advance_under.new.caller)
+          (ap (λ (v : ClassView). v.number) i.3.same) c.advance_under.ensures.still),
     )
 
 pub advance_under-requires-clause-caller : goal.advance_under-requires-clause-caller
@@ -63,7 +65,8 @@ returns-in_err-advance_under-clause-still g c =
     let turn = c.args.call.turn.who.turn in
     let i = c.hits.invariant in
     still_both (IsOfWalk config c.args.class.now.class.number) turn c.args.caller.now c.hits.caller c.advance_under.new.caller i.5
-    (subst (λ (n : ClassNo). StillCalls (IsOfWalk config n) turn c.hits.caller c.advance_under.new.caller) (ap (λ (v : ClassView). v.number) i.3.same) c.advance_under.ensures.still)
+    (subst (λ (n : ClassNo). StillCalls (IsOfWalk config n) turn (class_sight config c.hits.class) (class_sight config c.advance_under.new.class) c.hits.caller c.advance_under.new.caller)
+    (ap (λ (v : ClassView). v.number) i.3.same) c.advance_under.ensures.still)
 
 pub returns-in_err-advance_under-clause-same : goal.returns-in_err-advance_under-clause-same
 returns-in_err-advance_under-clause-same g c = hands_more c.args.hands.now c.hits.hands c.take.new.hands _ c.hits.invariant.1 c.in-Some.ensures.taken

@@ -1,7 +1,7 @@
 use Rattle.std.proofs.Common.{◌≡◌}
 use Rattle.mc_hits.specs.Views.{tables_of}
 use Rattle.mc_pull.specs.Growth as classes
-use Rattle.mc_store.specs.{Accounts.IsOfWalk, Accounts.StillCalls, Callers.juggling_of, Hits.queue_of, Locked.HasBegunAs}
+use Rattle.mc_store.specs.{Accounts.IsOfWalk, Accounts.StillCalls, Callers.juggling_of, Hits.queue_of, Locked.HasBegunAs, Walking.class_sight}
 use Rattle.mc_store.proofs.TakenHitLemmas.{AreSoFar}
 use Rattle.mc_store.proofs.taking.advance_hits.Given as goal
 
@@ -11,4 +11,4 @@ invariant-hits g l =
     × HasBegunAs g.N.Named.config l.class.sight l.call.turn.who l.call.turn.moment (juggling_of l.class.class.number l.call.turn.moment)
     × classes.GainsEvents l.fn.class.class l.class.class
     × AreSoFar (queue_of l.fn.class.class.number) l.call.turn l.fn.hands l.hands l.fn.class.class.history l.class.class.history l.counter
-    × StillCalls (IsOfWalk g.N.Named.config l.fn.class.class.number) l.call.turn.who.turn l.fn.caller l.caller
+    × StillCalls (IsOfWalk g.N.Named.config l.fn.class.class.number) l.call.turn.who.turn (class_sight g.N.Named.config l.fn.class) (class_sight g.N.Named.config l.class) l.fn.caller l.caller

@@ -1,8 +1,8 @@
-use Rattle.std.proofs.Common.{rules, ◌≡◌, ap, ◌∙◌, subst, sym}
+use Rattle.std.proofs.Common.{rules, ap, ◌∙◌, subst, sym}
 use Rattle.mc_item.specs.declared.item.ClassNo.{ClassNo}
 use Rattle.mc_segment.specs.ClassState.{ClassView}
-use Rattle.mc_store.specs.{Accounts.IsOfWalk, Accounts.StillCalls, Callers.juggling_of, Locked.HasBegunAs, Locked.IsLockedClass, Serving.class_side, Sides.ClassSide}
-use Rattle.mc_store.proofs.{CallerLemmas.begun_as_sees, OwnEventLemmas.locked_gains, OwnEventLemmas.none_own, OwnEventLemmas.of_juggling}
+use Rattle.mc_store.specs.{Callers.juggling_of, Locked.HasBegunAs, Locked.IsLockedClass, Serving.class_side, Sides.ClassSide}
+use Rattle.mc_store.proofs.{CallerLemmas.begun_as_sees, GateLemmas.still_under, OwnEventLemmas.locked_gains, OwnEventLemmas.none_own, OwnEventLemmas.of_juggling}
 use Rattle.mc_store.proofs.OwnCallLemmas.{may_try_whole}
 use Rattle.mc_store.proofs.taking.advance_under.Goals as goal
 
@@ -46,6 +46,10 @@ returns-clause-begun g c =
 
 pub returns-clause-still : goal.returns-clause-still
 returns-clause-still g c =
-    let of : c.side.inside.state ≡ c.args.class.now.class = ap (λ (x : ClassSide). x.class) (c.side.view_is ∙ c.class.view_is) in
-    let still = subst (λ (v : ClassView). StillCalls (IsOfWalk g.N.Named.config v.number) c.args.call.turn.who.turn c.args.caller.now c.advance.new.self.caller.now) of c.advance.ensures.still in
+    let made = c.advance in
+    let old : ClassSide = class_side c.side.inside.owner c.side.inside.seen c.side.inside.state in
+    let new : ClassSide = class_side made.new.self.owner.now made.new.self.seen.now made.new.class in
+    let still =
+    still_under g.N.Named.config c.args.call.turn.who.turn old new c.args.class.now c.args.caller.now made.new.self.caller.now (c.side.view_is ∙ c.class.view_is)
+    (ap (λ (v : ClassView). v.number) made.ensures.gains.grows.same) made.ensures.still in
     search (rules, still)

@@ -1,7 +1,7 @@
 use Rattle.std.proofs.Common.{ap, subst, sym, ◌∙◌}
 use Rattle.mc_item.specs.declared.item.ClassNo.{ClassNo}
 use Rattle.mc_segment.specs.ClassState.{ClassView}
-use Rattle.mc_store.specs.{Accounts.IsOfWalk, Accounts.StillCalls, Hits.queue_of}
+use Rattle.mc_store.specs.{Accounts.IsOfWalk, Accounts.StillCalls, Hits.queue_of, Walking.class_sight}
 use Rattle.mc_store.proofs.AccountLemmas.{still_both}
 use Rattle.mc_store.proofs.TakenHitLemmas.{takes_all, takes_cut, upkept_by}
 use Rattle.mc_store.proofs.taking.upkeep_under.Goals as goal
@@ -32,5 +32,6 @@ returns-clause-still g c =
     let config = g.N.Named.config in
     let turn = c.args.call.turn.who.turn in
     still_both (IsOfWalk config c.args.class.now.class.number) turn c.args.caller.now c.advance_hits.new.caller c.juggle_under.new.caller c.advance_hits.ensures.still
-    (subst (λ (n : ClassNo). StillCalls (IsOfWalk config n) turn c.advance_hits.new.caller c.juggle_under.new.caller)
+    (subst
+    (λ (n : ClassNo). StillCalls (IsOfWalk config n) turn (class_sight config c.advance_hits.new.class) (class_sight config c.juggle_under.new.class) c.advance_hits.new.caller c.juggle_under.new.caller)
     (ap (λ (v : ClassView). v.number) c.advance_hits.ensures.class.same) c.juggle_under.ensures.still)

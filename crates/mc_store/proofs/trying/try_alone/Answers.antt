@@ -30,9 +30,10 @@ invariant_of-own g c =
     let own = open_stripe g.N.Named.board.table g.N.Named.config raw.owner raw.seen raw.state c.own.inside.side c.args.own.now (ap (λ i. i.side) c.own-inside.view_is) c.own.invariant c.own.view_is in
     let step = step_on own tr.result tr.ensures.site [] [] c.requires.may (tr.ensures.tried g.N.Named.config) tr.ensures.err in
     let note = c.note_if in
-    let still = entered_stripe step _ _ c.catch_up_stripe.ensures.entered in
-    let known = known_in step own still c.requires.asked c.events-place.ensures c.is_made.ensures note.ensures.grows note.ensures.of note.ensures.told note.ensures.noted note.ensures.unnoted in
-    alone_left step known c.history.ensures.legal (left_first note.new.seen.sight c.catch_up_stripe.ensures.told)
+    let left = left_first note.new.seen.sight c.catch_up_stripe.ensures.told in
+    let still = entered_stripe step note.ensures.grows left _ c.catch_up_stripe.ensures.entered in
+    let known = known_in step own left still c.requires.asked c.events-place.ensures c.is_made.ensures note.ensures.grows note.ensures.of note.ensures.told note.ensures.noted note.ensures.unnoted in
+    alone_left step known c.history.ensures.legal left
 
 pub returns-clause-tried : goal.returns-clause-tried
 returns-clause-tried g c =
@@ -41,9 +42,10 @@ returns-clause-tried g c =
     let own = open_stripe g.N.Named.board.table g.N.Named.config raw.owner raw.seen raw.state c.own.inside.side c.args.own.now (ap (λ i. i.side) c.own-inside.view_is) c.own.invariant c.own.view_is in
     let step = step_on own tr.result tr.ensures.site [] [] c.requires.may (tr.ensures.tried g.N.Named.config) tr.ensures.err in
     let note = c.note_if in
-    let still = entered_stripe step _ _ c.catch_up_stripe.ensures.entered in
-    let known = known_in step own still c.requires.asked c.events-place.ensures c.is_made.ensures note.ensures.grows note.ensures.of note.ensures.told note.ensures.noted note.ensures.unnoted in
-    left_tried step known own (left_first note.new.seen.sight c.catch_up_stripe.ensures.told) refl [] [] (λ untouched. tt)
+    let left = left_first note.new.seen.sight c.catch_up_stripe.ensures.told in
+    let still = entered_stripe step note.ensures.grows left _ c.catch_up_stripe.ensures.entered in
+    let known = known_in step own left still c.requires.asked c.events-place.ensures c.is_made.ensures note.ensures.grows note.ensures.of note.ensures.told note.ensures.noted note.ensures.unnoted in
+    left_tried step known own left refl [] [] (λ untouched. tt)
 
 pub returns-clause-unnoted : goal.returns-clause-unnoted
 returns-clause-unnoted g c =
@@ -52,9 +54,10 @@ returns-clause-unnoted g c =
     let own = open_stripe g.N.Named.board.table g.N.Named.config raw.owner raw.seen raw.state c.own.inside.side c.args.own.now (ap (λ i. i.side) c.own-inside.view_is) c.own.invariant c.own.view_is in
     let step = step_on own tr.result tr.ensures.site [] [] c.requires.may (tr.ensures.tried g.N.Named.config) tr.ensures.err in
     let note = c.note_if in
-    let still = entered_stripe step _ _ c.catch_up_stripe.ensures.entered in
-    let known = known_in step own still c.requires.asked c.events-place.ensures c.is_made.ensures note.ensures.grows note.ensures.of note.ensures.told note.ensures.noted note.ensures.unnoted in
-    left_unnoted step known refl
+    let left = left_first note.new.seen.sight c.catch_up_stripe.ensures.told in
+    let still = entered_stripe step note.ensures.grows left _ c.catch_up_stripe.ensures.entered in
+    let known = known_in step own left still c.requires.asked c.events-place.ensures c.is_made.ensures note.ensures.grows note.ensures.of note.ensures.told note.ensures.noted note.ensures.unnoted in
+    left_unnoted step known own left refl
 
 pub note_if-requires-clause-last : goal.note_if-requires-clause-last
 note_if-requires-clause-last g c =

@@ -1,5 +1,6 @@
 use Rattle.std.proofs.Common.{rules, ◌∷◌, ◌∙◌, [], ap, subst, sym}
-use Rattle.mc_store.specs.{Callers.IsUnanswered, Passes.CallerView, Sides.ClassSide}
+use Rattle.mc_store.specs.{Callers.IsUnanswered, Passes.CallerView, Sides.ClassSide, Sides.class_told}
+use Rattle.mc_store.proofs.EnteredLemmas.{told_has}
 use Rattle.mc_store.proofs.LentClassLemmas.{class_behind}
 use Rattle.mc_store.proofs.OpenTryLemmas.{class_by, class_left, entered_class, entered_stripe, first_lent, grow_in, known_in, left_first, left_same, left_sees, left_stays, left_told}
 use Rattle.mc_store.proofs.OpenTryLemmas.{left_full, left_err, left_tried, one_left, open_class, open_stripe, step_one, stripe_by, stripe_lacks}
@@ -61,10 +62,11 @@ invariant_of-own g c =
     let class = open_class g.N.Named.board.table g.N.Named.config raw_of.owner raw_of.seen raw_of.state c.class.inside.side c.args.class.now (ap (λ i. i.side) c.class-inside.view_is) c.class.invariant c.class.view_is in
     let step = step_one own tr.result tr.ensures.site class tr.new.class c.requires.may tr.ensures.tried tr.ensures.err in
     let note = c.note_if in
-    let still = entered_class step class (entered_stripe step _ _ c.catch_up_stripe.ensures.entered) _ _ c.catch_up_class.ensures.entered in
-    let known = known_in step own still c.requires.asked c.events-place.ensures c.is_made.ensures note.ensures.grows note.ensures.of note.ensures.told note.ensures.noted note.ensures.unnoted in
     let lent = first_lent step class in
     let left = left_told (left_first note.new.seen.sight c.catch_up_stripe.ensures.told) lent c.catch_up_class.ensures.told c.hear.ensures.told c.hear.ensures.grows in
+    let has = told_has note.new.seen.sight raw_of.owner.lock (class_told tr.new.class.history) in
+    let still = entered_class step lent left c.class-inside.invariant.0 has (entered_stripe step note.ensures.grows left _ c.catch_up_stripe.ensures.entered) c.catch_up_class.ensures.entered in
+    let known = known_in step own left still c.requires.asked c.events-place.ensures c.is_made.ensures note.ensures.grows note.ensures.of note.ensures.told note.ensures.noted note.ensures.unnoted in
     one_left step known lent (left_same left c.hear-2.ensures.stripe) c.history.ensures.legal
 
 pub invariant_of-class : goal.invariant_of-class
@@ -76,10 +78,11 @@ invariant_of-class g c =
     let class = open_class g.N.Named.board.table g.N.Named.config raw_of.owner raw_of.seen raw_of.state c.class.inside.side c.args.class.now (ap (λ i. i.side) c.class-inside.view_is) c.class.invariant c.class.view_is in
     let step = step_one own tr.result tr.ensures.site class tr.new.class c.requires.may tr.ensures.tried tr.ensures.err in
     let note = c.note_if in
-    let still = entered_class step class (entered_stripe step _ _ c.catch_up_stripe.ensures.entered) _ _ c.catch_up_class.ensures.entered in
-    let known = known_in step own still c.requires.asked c.events-place.ensures c.is_made.ensures note.ensures.grows note.ensures.of note.ensures.told note.ensures.noted note.ensures.unnoted in
     let lent = first_lent step class in
     let left = left_told (left_first note.new.seen.sight c.catch_up_stripe.ensures.told) lent c.catch_up_class.ensures.told c.hear.ensures.told c.hear.ensures.grows in
+    let has = told_has note.new.seen.sight raw_of.owner.lock (class_told tr.new.class.history) in
+    let still = entered_class step lent left c.class-inside.invariant.0 has (entered_stripe step note.ensures.grows left _ c.catch_up_stripe.ensures.entered) c.catch_up_class.ensures.entered in
+    let known = known_in step own left still c.requires.asked c.events-place.ensures c.is_made.ensures note.ensures.grows note.ensures.of note.ensures.told note.ensures.noted note.ensures.unnoted in
     class_left step known c.history.ensures.legal lent c.catch_up_class.ensures.told c.hear.ensures.class c.law.ensures.lawful left c.hear-2.ensures.told c.hear-2.ensures.grows
     c.tell_owned.ensures.class c.tell_owned.ensures.grows (c.tell_owned.ensures.begun _ _ _ known.begun)
 
@@ -92,10 +95,11 @@ returns g c =
     let class = open_class g.N.Named.board.table g.N.Named.config raw_of.owner raw_of.seen raw_of.state c.class.inside.side c.args.class.now (ap (λ i. i.side) c.class-inside.view_is) c.class.invariant c.class.view_is in
     let step = step_one own tr.result tr.ensures.site class tr.new.class c.requires.may tr.ensures.tried tr.ensures.err in
     let note = c.note_if in
-    let still = entered_class step class (entered_stripe step _ _ c.catch_up_stripe.ensures.entered) _ _ c.catch_up_class.ensures.entered in
-    let known = known_in step own still c.requires.asked c.events-place.ensures c.is_made.ensures note.ensures.grows note.ensures.of note.ensures.told note.ensures.noted note.ensures.unnoted in
     let lent = first_lent step class in
     let left = left_told (left_first note.new.seen.sight c.catch_up_stripe.ensures.told) lent c.catch_up_class.ensures.told c.hear.ensures.told c.hear.ensures.grows in
+    let has = told_has note.new.seen.sight raw_of.owner.lock (class_told tr.new.class.history) in
+    let still = entered_class step lent left c.class-inside.invariant.0 has (entered_stripe step note.ensures.grows left _ c.catch_up_stripe.ensures.entered) c.catch_up_class.ensures.entered in
+    let known = known_in step own left still c.requires.asked c.events-place.ensures c.is_made.ensures note.ensures.grows note.ensures.of note.ensures.told note.ensures.noted note.ensures.unnoted in
     let end = left_same left c.hear-2.ensures.stripe in
     record {
       tried = left_tried step known own end c.tell_owned.ensures.same (c.args.class.now ∷ []) (c.tell_owned.new.class ∷ []) (λ untouched. (

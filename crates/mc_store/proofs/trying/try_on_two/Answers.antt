@@ -1,8 +1,10 @@
 use Rattle.std.proofs.Common.{rules, ◌∷◌, ◌∙◌, [], ap, subst, sym}
-use Rattle.mc_store.specs.{Callers.IsUnanswered, Callers.asked_for, Passes.CallerView, Passes.HasCalled, Sides.ClassSide}
+use Rattle.mc_board.specs.Histories.{with_seen}
+use Rattle.mc_store.specs.{Callers.IsUnanswered, Callers.asked_for, Passes.CallerView, Passes.HasCalled, Sides.ClassSide, Sides.class_told}
+use Rattle.mc_store.proofs.EnteredLemmas.{told_has}
 use Rattle.mc_store.proofs.LentClassLemmas.{class_behind}
-use Rattle.mc_store.proofs.OpenTryLemmas.{class_by, class_left, entered_class, entered_stripe, first_lent, grow_in, known_in, left_first, left_same, left_sees, left_stays, left_told}
-use Rattle.mc_store.proofs.OpenTryLemmas.{left_full, left_err, left_tried, open_class, open_stripe, second_lent, step_two, stripe_by, stripe_lacks, two_left}
+use Rattle.mc_store.proofs.OpenTryLemmas.{class_by, class_left, entered_class, entered_stripe, first_lent, grow_in, known_in, left_first, left_more, left_same, left_sees, left_stays, left_told}
+use Rattle.mc_store.proofs.OpenTryLemmas.{left_full, left_err, left_tried, open_class, open_stripe, second_lent, step_two, stripe_by, stripe_lacks, told_later, two_left}
 use Rattle.mc_store.proofs.PlacedLemmas.{asked_unanswered}
 use Rattle.mc_store.proofs.trying.try_on_two.Goals as goal
 
@@ -106,13 +108,16 @@ invariant_of-own g c =
     (ap (λ i. i.side) c.other-inside.view_is) c.other.invariant c.other.view_is in
     let step = step_two own tr.result tr.ensures.site home tr.new.home other tr.new.other c.requires.may tr.ensures.tried tr.ensures.err in
     let note = c.note_if in
-    let first = entered_class step home (entered_stripe step _ _ c.catch_up_stripe.ensures.entered) _ _ c.catch_up_class.ensures.entered in
-    let still = entered_class step other first _ _ c.catch_up_class-2.ensures.entered in
-    let known = known_in step own still c.requires.asked c.events-place.ensures c.is_made.ensures note.ensures.grows note.ensures.of note.ensures.told note.ensures.noted note.ensures.unnoted in
     let lent = first_lent step home in
     let beside = second_lent step other in
-    let left = left_told (left_told (left_first note.new.seen.sight c.catch_up_stripe.ensures.told) lent c.catch_up_class.ensures.told c.hear.ensures.told c.hear.ensures.grows)
-    beside c.catch_up_class-2.ensures.told c.hear-2.ensures.told c.hear-2.ensures.grows in
+    let one = left_told (left_first note.new.seen.sight c.catch_up_stripe.ensures.told) lent c.catch_up_class.ensures.told c.hear.ensures.told c.hear.ensures.grows in
+    let left = left_told one beside c.catch_up_class-2.ensures.told c.hear-2.ensures.told c.hear-2.ensures.grows in
+    let more = left_more one beside c.catch_up_class-2.ensures.told c.hear-2.ensures.told c.hear-2.ensures.grows in
+    let has = told_later note.new.seen.sight _ raw_home.owner.lock tr.new.home.history more in
+    let has_other = told_has (with_seen note.new.seen.sight raw_home.owner.lock (class_told tr.new.home.history)) raw_other.owner.lock (class_told tr.new.other.history) in
+    let first = entered_class step lent left c.home-inside.invariant.0 has (entered_stripe step note.ensures.grows left _ c.catch_up_stripe.ensures.entered) c.catch_up_class.ensures.entered in
+    let still = entered_class step beside left c.other-inside.invariant.0 has_other first c.catch_up_class-2.ensures.entered in
+    let known = known_in step own left still c.requires.asked c.events-place.ensures c.is_made.ensures note.ensures.grows note.ensures.of note.ensures.told note.ensures.noted note.ensures.unnoted in
     two_left step known lent beside (left_same (left_same left c.hear-3.ensures.stripe) c.hear-4.ensures.stripe) c.history.ensures.legal
 
 pub invariant_of-home : goal.invariant_of-home
@@ -127,13 +132,16 @@ invariant_of-home g c =
     (ap (λ i. i.side) c.other-inside.view_is) c.other.invariant c.other.view_is in
     let step = step_two own tr.result tr.ensures.site home tr.new.home other tr.new.other c.requires.may tr.ensures.tried tr.ensures.err in
     let note = c.note_if in
-    let first = entered_class step home (entered_stripe step _ _ c.catch_up_stripe.ensures.entered) _ _ c.catch_up_class.ensures.entered in
-    let still = entered_class step other first _ _ c.catch_up_class-2.ensures.entered in
-    let known = known_in step own still c.requires.asked c.events-place.ensures c.is_made.ensures note.ensures.grows note.ensures.of note.ensures.told note.ensures.noted note.ensures.unnoted in
     let lent = first_lent step home in
     let beside = second_lent step other in
-    let left = left_told (left_told (left_first note.new.seen.sight c.catch_up_stripe.ensures.told) lent c.catch_up_class.ensures.told c.hear.ensures.told c.hear.ensures.grows)
-    beside c.catch_up_class-2.ensures.told c.hear-2.ensures.told c.hear-2.ensures.grows in
+    let one = left_told (left_first note.new.seen.sight c.catch_up_stripe.ensures.told) lent c.catch_up_class.ensures.told c.hear.ensures.told c.hear.ensures.grows in
+    let left = left_told one beside c.catch_up_class-2.ensures.told c.hear-2.ensures.told c.hear-2.ensures.grows in
+    let more = left_more one beside c.catch_up_class-2.ensures.told c.hear-2.ensures.told c.hear-2.ensures.grows in
+    let has = told_later note.new.seen.sight _ raw_home.owner.lock tr.new.home.history more in
+    let has_other = told_has (with_seen note.new.seen.sight raw_home.owner.lock (class_told tr.new.home.history)) raw_other.owner.lock (class_told tr.new.other.history) in
+    let first = entered_class step lent left c.home-inside.invariant.0 has (entered_stripe step note.ensures.grows left _ c.catch_up_stripe.ensures.entered) c.catch_up_class.ensures.entered in
+    let still = entered_class step beside left c.other-inside.invariant.0 has_other first c.catch_up_class-2.ensures.entered in
+    let known = known_in step own left still c.requires.asked c.events-place.ensures c.is_made.ensures note.ensures.grows note.ensures.of note.ensures.told note.ensures.noted note.ensures.unnoted in
     class_left step known c.history.ensures.legal lent c.catch_up_class.ensures.told c.hear.ensures.class c.law.ensures.lawful left c.hear-3.ensures.told c.hear-3.ensures.grows
     c.tell_owned.ensures.class c.tell_owned.ensures.grows (c.tell_owned.ensures.begun _ _ _ known.begun)
 
@@ -149,13 +157,16 @@ invariant_of-other g c =
     (ap (λ i. i.side) c.other-inside.view_is) c.other.invariant c.other.view_is in
     let step = step_two own tr.result tr.ensures.site home tr.new.home other tr.new.other c.requires.may tr.ensures.tried tr.ensures.err in
     let note = c.note_if in
-    let first = entered_class step home (entered_stripe step _ _ c.catch_up_stripe.ensures.entered) _ _ c.catch_up_class.ensures.entered in
-    let still = entered_class step other first _ _ c.catch_up_class-2.ensures.entered in
-    let known = known_in step own still c.requires.asked c.events-place.ensures c.is_made.ensures note.ensures.grows note.ensures.of note.ensures.told note.ensures.noted note.ensures.unnoted in
     let lent = first_lent step home in
     let beside = second_lent step other in
-    let left = left_told (left_told (left_first note.new.seen.sight c.catch_up_stripe.ensures.told) lent c.catch_up_class.ensures.told c.hear.ensures.told c.hear.ensures.grows)
-    beside c.catch_up_class-2.ensures.told c.hear-2.ensures.told c.hear-2.ensures.grows in
+    let one = left_told (left_first note.new.seen.sight c.catch_up_stripe.ensures.told) lent c.catch_up_class.ensures.told c.hear.ensures.told c.hear.ensures.grows in
+    let left = left_told one beside c.catch_up_class-2.ensures.told c.hear-2.ensures.told c.hear-2.ensures.grows in
+    let more = left_more one beside c.catch_up_class-2.ensures.told c.hear-2.ensures.told c.hear-2.ensures.grows in
+    let has = told_later note.new.seen.sight _ raw_home.owner.lock tr.new.home.history more in
+    let has_other = told_has (with_seen note.new.seen.sight raw_home.owner.lock (class_told tr.new.home.history)) raw_other.owner.lock (class_told tr.new.other.history) in
+    let first = entered_class step lent left c.home-inside.invariant.0 has (entered_stripe step note.ensures.grows left _ c.catch_up_stripe.ensures.entered) c.catch_up_class.ensures.entered in
+    let still = entered_class step beside left c.other-inside.invariant.0 has_other first c.catch_up_class-2.ensures.entered in
+    let known = known_in step own left still c.requires.asked c.events-place.ensures c.is_made.ensures note.ensures.grows note.ensures.of note.ensures.told note.ensures.noted note.ensures.unnoted in
     let begun = subst (λ (k : CallerView). HasCalled k c.args.task.turn.who c.args.task.turn.moment (asked_for c.args.task.command.now c.args.task.turn.moment)) (sym c.tell_owned.ensures.same) known.begun in
     class_left step known c.history.ensures.legal beside c.catch_up_class-2.ensures.told c.hear-2.ensures.class c.law-2.ensures.lawful (left_same left c.hear-3.ensures.stripe) c.hear-4.ensures.told c.hear-4.ensures.grows
     c.tell_owned-2.ensures.class c.tell_owned-2.ensures.grows (c.tell_owned-2.ensures.begun _ _ _ begun)
@@ -172,13 +183,16 @@ returns g c =
     (ap (λ i. i.side) c.other-inside.view_is) c.other.invariant c.other.view_is in
     let step = step_two own tr.result tr.ensures.site home tr.new.home other tr.new.other c.requires.may tr.ensures.tried tr.ensures.err in
     let note = c.note_if in
-    let first = entered_class step home (entered_stripe step _ _ c.catch_up_stripe.ensures.entered) _ _ c.catch_up_class.ensures.entered in
-    let still = entered_class step other first _ _ c.catch_up_class-2.ensures.entered in
-    let known = known_in step own still c.requires.asked c.events-place.ensures c.is_made.ensures note.ensures.grows note.ensures.of note.ensures.told note.ensures.noted note.ensures.unnoted in
     let lent = first_lent step home in
     let beside = second_lent step other in
-    let left = left_told (left_told (left_first note.new.seen.sight c.catch_up_stripe.ensures.told) lent c.catch_up_class.ensures.told c.hear.ensures.told c.hear.ensures.grows)
-    beside c.catch_up_class-2.ensures.told c.hear-2.ensures.told c.hear-2.ensures.grows in
+    let one = left_told (left_first note.new.seen.sight c.catch_up_stripe.ensures.told) lent c.catch_up_class.ensures.told c.hear.ensures.told c.hear.ensures.grows in
+    let left = left_told one beside c.catch_up_class-2.ensures.told c.hear-2.ensures.told c.hear-2.ensures.grows in
+    let more = left_more one beside c.catch_up_class-2.ensures.told c.hear-2.ensures.told c.hear-2.ensures.grows in
+    let has = told_later note.new.seen.sight _ raw_home.owner.lock tr.new.home.history more in
+    let has_other = told_has (with_seen note.new.seen.sight raw_home.owner.lock (class_told tr.new.home.history)) raw_other.owner.lock (class_told tr.new.other.history) in
+    let first = entered_class step lent left c.home-inside.invariant.0 has (entered_stripe step note.ensures.grows left _ c.catch_up_stripe.ensures.entered) c.catch_up_class.ensures.entered in
+    let still = entered_class step beside left c.other-inside.invariant.0 has_other first c.catch_up_class-2.ensures.entered in
+    let known = known_in step own left still c.requires.asked c.events-place.ensures c.is_made.ensures note.ensures.grows note.ensures.of note.ensures.told note.ensures.noted note.ensures.unnoted in
     let end = left_same (left_same left c.hear-3.ensures.stripe) c.hear-4.ensures.stripe in
     record {
       tried = left_tried step known own end (c.tell_owned-2.ensures.same ∙ c.tell_owned.ensures.same) (c.args.home.now ∷ c.args.other.now ∷ []) (c.tell_owned.new.class ∷ c.tell_owned-2.new.class ∷ []) (λ untouched. (

@@ -1,4 +1,4 @@
-use Rattle.std.proofs.Common.{◌≡◌, ◌<◌, ◌+◌, ◌⊎◌, length, ◌++◌, ◌∷◌, [], List, Some, ap, sym, subst, ◌∙◌, rules}
+use Rattle.std.proofs.Common.{◌≡◌, ◌<◌, ◌+◌, ◌⊎◌, length, ◌++◌, ◌∷◌, [], List, Some, ap, refl, sym, subst, ◌∙◌, rules}
 use Rattle.mc_item.specs.Command.{key_of}
 use Rattle.mc_item.specs.declared.{fault.Fault.TheVariants.HistoryFull, stripe_event.Cause.TheVariants.Expired, stripe_event.StripeEvent.StripeEvent}
 use Rattle.mc_item.specs.declared.item.ClassNo.{ClassNo}
@@ -9,12 +9,12 @@ use Rattle.mc_pull.specs.declared.{judge.Done.Done, judge.Judge.TheVariants.Dead
 use Rattle.mc_pull.proofs.OneStripeGateLemmas.{settle_walked}
 use Rattle.mc_store.proofs.{DeadEntryLemmas.dead_listed, DeadEntryLemmas.dead_reclaimed, DeadEntryLemmas.told_dead, ShortHistoryLemmas.err_is, OwnEventLemmas.GainsFit, OwnEventLemmas.gains_settled}
 use Rattle.mc_store.proofs.{OwnEventLemmas.locked_told, CallerLemmas.begun_sees, CallerLemmas.command_any, CallerLemmas.command_sees, LockKeepsLemmas.grows_trans}
-use Rattle.mc_store.specs.{Accounts.IsClassLock, Passes.CallerView, Sides.ClassSide, Sides.StripeSide, Full.LacksPlaces, Serving.class_side}
+use Rattle.mc_store.specs.{Accounts.IsClassLock, Passes.CallerView, Sides.ClassSide, Sides.StripeSide, Sides.stripe_told, Full.LacksPlaces, Serving.class_side, Trying.StillTries}
 use Rattle.mc_store.specs.Locked.{HasBegun, HasBegunCommand, IsHeldClass, IsLockedClass}
-use Rattle.mc_store.proofs.{AccountLemmas.still_settled, EnteredLemmas.is_class_lock}
+use Rattle.mc_store.proofs.EnteredLemmas.{following_from, following_settled, heard_tried, is_class_lock, pair_tried}
 use Rattle.mc_store.specs.declared.locked.LockedStripe.TheInside as stripes
 use Rattle.mc_store.specs.declared.locked.LockedClass.TheInside as classes
-use Rattle.mc_store.proofs.SyncedStepLemmas.{class_paired, class_told_more, settled_grows, settled_told, short_paired, stripe_paired}
+use Rattle.mc_store.proofs.SyncedStepLemmas.{class_paired, class_told_more, grows_paired, settled_grows, settled_told, short_paired, sight_paired, stripe_paired}
 use Rattle.mc_pull.specs.Walker.{walker_of}
 use Rattle.mc_store.proofs.OwnCallLemmas.{class_settled_by, stripe_walked_by}
 use Rattle.mc_store.proofs.walking.bury_under.Goals as goal
@@ -69,15 +69,30 @@ returns-in_err-done-clause-same g c =
     let own = c.own-inside.inside.0.0 in
     let lent = c.class-inside.inside.0.0 in
     let config = g.N.Named.config in
-    let s_is : own.state ≡ c.args.own.now.stripe = ap (λ (x : StripeSide). x.stripe) (own_is ∙ c.own.view_is) ∙ ap (λ (x : StripeSide). x.stripe) c.meet.ensures.own in
-    let lock : own.owner.lock ≡ own.state.site.stripe = subst (λ (x : StripeSide). x.lock ≡ x.stripe.site.stripe) (sym own_is) c.own.invariant.lock_is in
+    let turn = c.args.task.turn in
+    let did = c.settle-done.ensures in
+    let s_is : own.state ≡ c.meet.new.own.stripe = ap (λ (x : StripeSide). x.stripe) (own_is ∙ c.own.view_is) in
+    let c_is : lent.state ≡ c.meet.new.lent.class = ap (λ (x : ClassSide). x.class) (lent_is ∙ c.class.view_is) in
+    let agree : AgreeNow lent.state own.state = subst (λ (s : Stripe). AgreeNow lent.state s) (sym s_is) (subst (λ (v : ClassView). AgreeNow v c.meet.new.own.stripe) (sym c_is) c.meet.ensures.met) in
+    let q = question turn.who c.args.link.number Dead turn.moment in
+    let grows = settled_grows _ _ _ _ q c.settle-done.result did.settled did.err in
+    let longer = settled_told _ _ _ _ q c.settle-done.result did.settled did.err (stripe_told own.state.history) refl in
+    let sight = sight_paired g.N.Named.board.table config c.own.inside.side c.class.inside.side c.own.invariant c.class.invariant.held own.state own.owner own.seen own_is lent.state lent.owner lent.seen lent_is
+    agree c.settle-done.new.stripe c.settle-done.new.class did.keeps.site grows c.history-2.ensures.legal c.law-2.ensures.lawful did.keeps.agreement did.keeps.sight
+    c.catch_up_stripe.new.owner c.catch_up_stripe.ensures.told c.catch_up_class.new.owner c.catch_up_class.ensures.told c.hear.new.self c.learn.new.stripe c.hear.new.class c.hear-2.new.self
+    c.hear.ensures.class c.hear.ensures.told c.hear.ensures.grows (c.learn.ensures.stripe ∙ c.hear-2.ensures.stripe) c.hear-2.ensures.told c.hear-2.ensures.grows in
+    let sees = grows_paired g.N.Named.board.table config c.own.inside.side c.class.inside.side c.own.invariant c.class.invariant.held own.state own.owner own.seen own_is lent.state lent.owner lent.seen lent_is
+    agree c.settle-done.new.stripe c.settle-done.new.class did.keeps.site grows c.history-2.ensures.legal c.law-2.ensures.lawful did.keeps.agreement did.keeps.sight
+    c.catch_up_stripe.new.owner c.catch_up_stripe.ensures.told c.catch_up_class.new.owner c.catch_up_class.ensures.told c.hear.new.self c.learn.new.stripe c.hear.new.class c.hear-2.new.self
+    c.hear.ensures.class c.hear.ensures.told c.hear.ensures.grows (c.learn.ensures.stripe ∙ c.hear-2.ensures.stripe) c.hear-2.ensures.told c.hear-2.ensures.grows longer in
     let held = subst (IsHeldClass g.N.Named.board.table config) (sym lent_is) c.class.invariant.held in
     let of : IsClassLock config lent.owner.lock = subst (IsClassLock config) (sym held.lock_is) (is_class_lock config lent.state.number held.is) in
-    let still =
-    still_settled config c.args.own.now.stripe.site.stripe c.args.task.command.now c.args.caller.now c.catch_up_stripe.new.self c.catch_up_class.new.self c.args.task.turn.who.turn
-    own.owner.lock (length own.owner.history) (length c.settle-done.new.stripe.history) lent.owner.lock (length lent.owner.history) (length c.settle-done.new.class.history)
-    c.catch_up_stripe.ensures.entered c.catch_up_class.ensures.entered (lock ∙ ap (λ (s : Stripe). s.site.stripe) s_is) of in
-    (search rules, still)
+    let gains = following_settled lent.state c.settle-done.new.class own.state c.settle-done.new.stripe turn.who c.args.link.number turn.moment c.settle-done.result did.done did.settled did.err in
+    let still = pair_tried config turn c.own.inside.side c.learn.new.stripe own.owner.lock (length own.owner.history) c.settle-done.new.stripe.history lent.owner.lock (length lent.owner.history)
+    c.settle-done.new.class.history own.seen.sight c.catch_up_stripe.ensures.entered c.catch_up_class.ensures.entered (ap (λ (x : StripeSide). x.lock) own_is ∙ c.own.invariant.lock_is) c.own.invariant.of of sight sees
+    (following_from lent.state.history c.settle-done.new.class.history gains lent.owner.history c.class-inside.invariant.0) in
+    let met = subst (λ (x : StripeSide). StillTries config turn x c.learn.new.stripe c.args.caller.now c.catch_up_class.new.self) c.own.view_is still in
+    (search rules, heard_tried config turn c.args.own.now c.meet.new.own c.learn.new.stripe c.meet.ensures.own c.meet.ensures.grows refl met)
 
 pub returns-clause-same : goal.returns-clause-same
 returns-clause-same g c =
@@ -86,15 +101,30 @@ returns-clause-same g c =
     let own = c.own-inside.inside.0.0 in
     let lent = c.class-inside.inside.0.0 in
     let config = g.N.Named.config in
-    let s_is : own.state ≡ c.args.own.now.stripe = ap (λ (x : StripeSide). x.stripe) (own_is ∙ c.own.view_is) ∙ ap (λ (x : StripeSide). x.stripe) c.meet.ensures.own in
-    let lock : own.owner.lock ≡ own.state.site.stripe = subst (λ (x : StripeSide). x.lock ≡ x.stripe.site.stripe) (sym own_is) c.own.invariant.lock_is in
+    let turn = c.args.task.turn in
+    let did = c.settle-done.ensures in
+    let s_is : own.state ≡ c.meet.new.own.stripe = ap (λ (x : StripeSide). x.stripe) (own_is ∙ c.own.view_is) in
+    let c_is : lent.state ≡ c.meet.new.lent.class = ap (λ (x : ClassSide). x.class) (lent_is ∙ c.class.view_is) in
+    let agree : AgreeNow lent.state own.state = subst (λ (s : Stripe). AgreeNow lent.state s) (sym s_is) (subst (λ (v : ClassView). AgreeNow v c.meet.new.own.stripe) (sym c_is) c.meet.ensures.met) in
+    let q = question turn.who c.args.link.number Dead turn.moment in
+    let grows = settled_grows _ _ _ _ q c.settle-done.result did.settled did.err in
+    let longer = settled_told _ _ _ _ q c.settle-done.result did.settled did.err (stripe_told own.state.history) refl in
+    let sight = sight_paired g.N.Named.board.table config c.own.inside.side c.class.inside.side c.own.invariant c.class.invariant.held own.state own.owner own.seen own_is lent.state lent.owner lent.seen lent_is
+    agree c.settle-done.new.stripe c.settle-done.new.class did.keeps.site grows c.history-2.ensures.legal c.law-2.ensures.lawful did.keeps.agreement did.keeps.sight
+    c.catch_up_stripe.new.owner c.catch_up_stripe.ensures.told c.catch_up_class.new.owner c.catch_up_class.ensures.told c.hear.new.self c.learn.new.stripe c.hear.new.class c.hear-2.new.self
+    c.hear.ensures.class c.hear.ensures.told c.hear.ensures.grows (c.learn.ensures.stripe ∙ c.hear-2.ensures.stripe) c.hear-2.ensures.told c.hear-2.ensures.grows in
+    let sees = grows_paired g.N.Named.board.table config c.own.inside.side c.class.inside.side c.own.invariant c.class.invariant.held own.state own.owner own.seen own_is lent.state lent.owner lent.seen lent_is
+    agree c.settle-done.new.stripe c.settle-done.new.class did.keeps.site grows c.history-2.ensures.legal c.law-2.ensures.lawful did.keeps.agreement did.keeps.sight
+    c.catch_up_stripe.new.owner c.catch_up_stripe.ensures.told c.catch_up_class.new.owner c.catch_up_class.ensures.told c.hear.new.self c.learn.new.stripe c.hear.new.class c.hear-2.new.self
+    c.hear.ensures.class c.hear.ensures.told c.hear.ensures.grows (c.learn.ensures.stripe ∙ c.hear-2.ensures.stripe) c.hear-2.ensures.told c.hear-2.ensures.grows longer in
     let held = subst (IsHeldClass g.N.Named.board.table config) (sym lent_is) c.class.invariant.held in
     let of : IsClassLock config lent.owner.lock = subst (IsClassLock config) (sym held.lock_is) (is_class_lock config lent.state.number held.is) in
-    let still =
-    still_settled config c.args.own.now.stripe.site.stripe c.args.task.command.now c.args.caller.now c.catch_up_stripe.new.self c.catch_up_class.new.self c.args.task.turn.who.turn
-    own.owner.lock (length own.owner.history) (length c.settle-done.new.stripe.history) lent.owner.lock (length lent.owner.history) (length c.settle-done.new.class.history)
-    c.catch_up_stripe.ensures.entered c.catch_up_class.ensures.entered (lock ∙ ap (λ (s : Stripe). s.site.stripe) s_is) of in
-    (search rules, still)
+    let gains = following_settled lent.state c.settle-done.new.class own.state c.settle-done.new.stripe turn.who c.args.link.number turn.moment c.settle-done.result did.done did.settled did.err in
+    let still = pair_tried config turn c.own.inside.side c.learn.new.stripe own.owner.lock (length own.owner.history) c.settle-done.new.stripe.history lent.owner.lock (length lent.owner.history)
+    c.settle-done.new.class.history own.seen.sight c.catch_up_stripe.ensures.entered c.catch_up_class.ensures.entered (ap (λ (x : StripeSide). x.lock) own_is ∙ c.own.invariant.lock_is) c.own.invariant.of of sight sees
+    (following_from lent.state.history c.settle-done.new.class.history gains lent.owner.history c.class-inside.invariant.0) in
+    let met = subst (λ (x : StripeSide). StillTries config turn x c.learn.new.stripe c.args.caller.now c.catch_up_class.new.self) c.own.view_is still in
+    (search rules, heard_tried config turn c.args.own.now c.meet.new.own c.learn.new.stripe c.meet.ensures.own c.meet.ensures.grows refl met)
 
 pub invariant_of-own : goal.invariant_of-own
 invariant_of-own g c =

@@ -1,7 +1,7 @@
 use Rattle.std.proofs.Common.{refl}
 use Rattle.mc_item.specs.{Command.key_of, Measure.stripe_of}
 use Rattle.mc_script.specs.Exchanges.{Asks}
-use Rattle.mc_store.specs.{Callers.asked_for, Passes.next_who}
+use Rattle.mc_store.specs.Callers.{asked_for}
 use Rattle.mc_driver.proofs.{CalledEventLemmas.cut_calls, CalledEventLemmas.full_calls, CalledEventLemmas.short_any, SharedCallLemmas.call_failed, SharedCallLemmas.goes_on, SharedCallLemmas.replied_ok}
 use Rattle.mc_evidence.proofs.SoundLemmas.{below_stripes}
 use Rattle.mc_driver.proofs.caller.CallerCalls.command.Goals as goal
@@ -16,7 +16,7 @@ returns-clause-err g c =
     let old = c.args.self.now.pass in
     let new = c.command.new.pass in
     call_failed g.N.Named.config old new c.command.ensures.caller c.command.ensures.grows.seen (Asks c.args.command) c.args.moment c.command.result
-    (cut_calls g.N.Named.config (stripe_of (key_of c.args.command) g.N.Named.config.stripes).0 old new (next_who old) c.args.command c.args.moment c.command.result c.command.ensures.cut)
+    (cut_calls g.N.Named.config (stripe_of (key_of c.args.command) g.N.Named.config.stripes).0 old new c.args.command c.args.moment c.command.result c.command.ensures.cut)
 
 pub returns-clause-caller : goal.returns-clause-caller
 returns-clause-caller g c =
@@ -26,6 +26,6 @@ returns-clause-caller g c =
     let call = asked_for c.args.command c.args.moment in
     goes_on g.N.Named.config old new c.command.result c.requires.may c.command.ensures.caller c.command.ensures.turn.0
     (full_calls g.N.Named.config old new call c.command.result c.requires.may refl
-    (cut_calls g.N.Named.config (stripe_of (key_of c.args.command) g.N.Named.config.stripes).0 old new (next_who old) c.args.command c.args.moment c.command.result c.command.ensures.cut)
-    (short_any g.N.Named.config number old new (next_who old) c.args.command c.args.moment c.command.result
+    (cut_calls g.N.Named.config (stripe_of (key_of c.args.command) g.N.Named.config.stripes).0 old new c.args.command c.args.moment c.command.result c.command.ensures.cut)
+    (short_any g.N.Named.config number old new c.args.command c.args.moment c.command.result
     (below_stripes (key_of c.args.command) g.N.Named.config.stripes c.requires.may.some) c.command.ensures.cut))

@@ -1,7 +1,7 @@
 use Rattle.std.proofs.Common.{refl}
 use Rattle.mc_script.specs.Exchanges.{Crawls}
 use Rattle.mc_store.specs.{Callers.crawling_of, Passes.next_who}
-use Rattle.mc_driver.proofs.{CalledEventLemmas.full_calls, SharedCallLemmas.call_failed, SharedCallLemmas.goes_on, SharedCallLemmas.crawled_kinds, SharedCallLemmas.crawled_ok}
+use Rattle.mc_driver.proofs.{CalledEventLemmas.full_calls, CalledEventLemmas.short_class_any, SharedCallLemmas.call_failed, SharedCallLemmas.goes_on, SharedCallLemmas.crawled_kinds, SharedCallLemmas.crawled_ok}
 use Rattle.mc_driver.proofs.caller.CallerCalls.crawl.Goals as goal
 
 pub returns-clause-ok : goal.returns-clause-ok
@@ -20,4 +20,5 @@ returns-clause-err g c =
 pub returns-clause-caller : goal.returns-clause-caller
 returns-clause-caller g c =
     goes_on g.N.Named.config c.args.self.now.pass c.crawl.new.pass c.crawl.result c.requires.may c.crawl.ensures.caller c.crawl.ensures.turn.0
-    (full_calls g.N.Named.config c.args.self.now.pass c.crawl.new.pass (crawling_of c.args.class c.args.moment) c.crawl.result c.requires.may refl c.crawl.ensures.cut c.crawl.ensures.full)
+    (full_calls g.N.Named.config c.args.self.now.pass c.crawl.new.pass (crawling_of c.args.class c.args.moment) c.crawl.result c.requires.may refl c.crawl.ensures.cut
+    (short_class_any g.N.Named.config c.args.self.now.pass c.crawl.new.pass c.args.class c.crawl.result c.crawl.ensures.full))

@@ -1,7 +1,7 @@
 use Rattle.std.proofs.Common.{refl}
 use Rattle.mc_script.specs.Exchanges.{Juggles}
 use Rattle.mc_store.specs.Callers.{juggling_of}
-use Rattle.mc_driver.proofs.{CalledEventLemmas.full_calls, SharedCallLemmas.call_failed, SharedCallLemmas.goes_on, SharedCallLemmas.juggled_ok}
+use Rattle.mc_driver.proofs.{CalledEventLemmas.full_calls, CalledEventLemmas.short_class_any, SharedCallLemmas.call_failed, SharedCallLemmas.goes_on, SharedCallLemmas.juggled_ok}
 use Rattle.mc_driver.proofs.caller.CallerCalls.juggle.Goals as goal
 
 pub returns-clause-ok : goal.returns-clause-ok
@@ -16,4 +16,5 @@ returns-clause-err g c =
 pub returns-clause-caller : goal.returns-clause-caller
 returns-clause-caller g c =
     goes_on g.N.Named.config c.args.self.now.pass c.juggle.new.pass c.juggle.result c.requires.may c.juggle.ensures.caller c.juggle.ensures.turn.0
-    (full_calls g.N.Named.config c.args.self.now.pass c.juggle.new.pass (juggling_of c.args.class c.args.moment) c.juggle.result c.requires.may refl c.juggle.ensures.cut c.juggle.ensures.full)
+    (full_calls g.N.Named.config c.args.self.now.pass c.juggle.new.pass (juggling_of c.args.class c.args.moment) c.juggle.result c.requires.may refl c.juggle.ensures.cut
+    (short_class_any g.N.Named.config c.args.self.now.pass c.juggle.new.pass c.args.class c.juggle.result c.juggle.ensures.full))

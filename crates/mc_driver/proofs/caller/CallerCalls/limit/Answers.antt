@@ -2,7 +2,7 @@ use Rattle.std.proofs.Common.{⊎_elim, inl, inr, refl}
 use Rattle.mc_script.specs.Exchanges.{Limits}
 use Rattle.mc_store.specs.Callers.{limits_of}
 use Rattle.mc_store.proofs.SeenStripeLemmas.{on_err_more}
-use Rattle.mc_driver.proofs.{CalledEventLemmas.full_calls, SharedCallLemmas.call_failed, SharedCallLemmas.goes_on, SharedCallLemmas.limited_ok}
+use Rattle.mc_driver.proofs.{CalledEventLemmas.full_calls, CalledEventLemmas.full_class_any, SharedCallLemmas.call_failed, SharedCallLemmas.goes_on, SharedCallLemmas.limited_ok}
 use Rattle.mc_driver.proofs.caller.CallerCalls.limit.Goals as goal
 
 pub returns-clause-ok : goal.returns-clause-ok
@@ -20,4 +20,4 @@ returns-clause-caller g c =
     goes_on g.N.Named.config c.args.self.now.pass c.chunks.new.pass c.chunks.result c.requires.may c.chunks.ensures.caller c.chunks.ensures.turn.0
     (full_calls g.N.Named.config c.args.self.now.pass c.chunks.new.pass (limits_of c.args.class c.args.chunks) c.chunks.result c.requires.may refl
     (on_err_more c.chunks.result _ _ (λ cut. ⊎_elim (λ same. inl same) (λ more. inr more.0) cut) c.chunks.ensures.cut)
-    c.chunks.ensures.full)
+    (full_class_any g.N.Named.config c.args.self.now.pass c.chunks.new.pass c.args.class c.chunks.result c.chunks.ensures.full))

@@ -1,9 +1,9 @@
-use Rattle.std.proofs.Common.{◌≡◌, Bool, List, false}
+use Rattle.std.proofs.Common.{◌≡◌, Bool, List, false, length}
 use Rattle.mc_pull.specs.{Rounds.IsRoom, Rounds.rounds, Walker.walker_of}
 use Rattle.mc_pull.specs.declared.looking.Answer.{Answer}
-use Rattle.mc_store.specs.{Accounts.IsOfWalk, Earned.IsSearchInVain, Looked.IsOfCall}
-use Rattle.mc_store.proofs.AccountLemmas.{still_none}
-use Rattle.mc_store.proofs.{GateLemmas.grew_itself, GateLemmas.ok_more, GateLemmas.served_asked, VisitedStripeLemmas.looked_itself, VisitedStripeLemmas.tried_any, OwnEventLemmas.searches_none}
+use Rattle.mc_store.specs.{Earned.IsSearchInVain, Looked.IsOfCall}
+use Rattle.mc_store.proofs.GateLemmas.{grew_itself, no_shorter, ok_more, served_asked, still_unwalked}
+use Rattle.mc_store.proofs.{VisitedStripeLemmas.looked_itself, VisitedStripeLemmas.tried_any, OwnEventLemmas.searches_none}
 use Rattle.mc_store.proofs.gates.Holding.make_room.Goals as goal
 
 pub make_room-requires : goal.make_room-requires
@@ -28,8 +28,10 @@ returns-clause-tried g c =
     let after = c.make_room.new.class.history in
     let first = looked_itself config.stripes w own xs c.args.class.now.history in
     let searched = searches_none c.args.context.turn.who c.args.context.turn.moment c.args.self.now.others.seen.now.sight c.args.class.now.history in
-    let still = still_none (IsOfWalk g.N.Named.config c.args.class.now.number) c.args.context.turn.who.turn c.args.self.now.others.caller.now in
-    let kept = c.make_room.ensures.gate.kept c.args.self.now c.args.class.now.history (grew_itself w own, λ of. (of, first), searched, still) in
+    let start = length c.args.self.now.others.owner.now.history in
+    let still =
+    still_unwalked g.N.Named.config c.args.class.now.number start c.args.context.turn.who.turn c.args.self.now.others.seen.now.sight c.args.class.now.history c.args.self.now.others.caller.now in
+    let kept = c.make_room.ensures.gate.kept c.args.self.now c.args.class.now.history (grew_itself w own, λ of. (of, first), searched, no_shorter start, still) in
     ok_more c.make_room.result _ (λ (found : Bool). found ≡ false → IsOfCall w c.args.self.now.others.who c.args.self.now.others.moment → IsSearchInVain config c.args.class.now own c.args.context.turn.who
     c.args.context.turn.moment after)
     (λ found made vain of.
@@ -44,8 +46,10 @@ returns-clause-left g c =
     let own = c.args.self.now.own.now.stripe in
     let first = looked_itself g.N.Named.config.stripes w own c.args.self.now.others.answers.now.items c.args.class.now.history in
     let searched = searches_none c.args.context.turn.who c.args.context.turn.moment c.args.self.now.others.seen.now.sight c.args.class.now.history in
-    let still = still_none (IsOfWalk g.N.Named.config c.args.class.now.number) c.args.context.turn.who.turn c.args.self.now.others.caller.now in
-    let kept = left.kept c.args.self.now c.args.class.now.history (grew_itself w own, λ of. (of, first), searched, still) in
+    let start = length c.args.self.now.others.owner.now.history in
+    let still =
+    still_unwalked g.N.Named.config c.args.class.now.number start c.args.context.turn.who.turn c.args.self.now.others.seen.now.sight c.args.class.now.history c.args.self.now.others.caller.now in
+    let kept = left.kept c.args.self.now c.args.class.now.history (grew_itself w own, λ of. (of, first), searched, no_shorter start, still) in
     record { served = left.serves.1; stripe = kept.0; searched = kept.2 }
 
 pub returns-clause-still : goal.returns-clause-still
@@ -54,5 +58,8 @@ returns-clause-still g c =
     let own = c.args.self.now.own.now.stripe in
     let first = looked_itself g.N.Named.config.stripes w own c.args.self.now.others.answers.now.items c.args.class.now.history in
     let searched = searches_none c.args.context.turn.who c.args.context.turn.moment c.args.self.now.others.seen.now.sight c.args.class.now.history in
-    let still = still_none (IsOfWalk g.N.Named.config c.args.class.now.number) c.args.context.turn.who.turn c.args.self.now.others.caller.now in
-    (c.make_room.ensures.gate.kept c.args.self.now c.args.class.now.history (grew_itself w own, λ of. (of, first), searched, still)).3
+    let start = length c.args.self.now.others.owner.now.history in
+    let still =
+    still_unwalked g.N.Named.config c.args.class.now.number start c.args.context.turn.who.turn c.args.self.now.others.seen.now.sight c.args.class.now.history c.args.self.now.others.caller.now in
+    let kept = c.make_room.ensures.gate.kept c.args.self.now c.args.class.now.history (grew_itself w own, λ of. (of, first), searched, no_shorter start, still) in
+    (kept.3, kept.4)

@@ -1,9 +1,8 @@
-use Rattle.std.proofs.Common.{rules, ◌≡◌, ◌∷◌, ◌++◌, [], List, ◌∙◌, ap, refl, subst, sym}
+use Rattle.std.proofs.Common.{rules, ◌≡◌, ◌∷◌, ◌++◌, [], List, ◌∙◌, ap, length, refl, subst, sym}
 use Rattle.mc_item.specs.declared.{config.Config.Config, item.Who.Who}
 use Rattle.mc_board.specs.{Histories.Grows, Views.SeenView}
-use Rattle.mc_store.specs.{Accounts.IsOfWalk, Looked.IsOfCall, Serving.IsServed, Sides.StripeSide}
-use Rattle.mc_store.proofs.AccountLemmas.{still_both, still_none}
-use Rattle.mc_store.proofs.{CallerLemmas.asked_here, CallerLemmas.begun_sees, GateLemmas.grew_on}
+use Rattle.mc_store.specs.{Looked.IsOfCall, Serving.IsServed, Sides.StripeSide, Walking.StillWalksFrom}
+use Rattle.mc_store.proofs.{CallerLemmas.asked_here, CallerLemmas.begun_sees, GateLemmas.grew_on, GateLemmas.no_shorter, GateLemmas.no_shorter_both, GateLemmas.still_on, GateLemmas.still_unwalked}
 use Rattle.mc_stripe.specs.StripeState.{Stripe}
 use Rattle.mc_pull.specs.{Lone.StripeGrows, Looks.answer_by, Question.HasKeyOf, Question.question_of, Walker.walker_of}
 use Rattle.mc_pull.specs.declared.looking.Answer.{Answer}
@@ -39,9 +38,9 @@ returns-then-not-lends-clause-gate g c =
     let w = walker_of look.class.now look.ask.who look.ask.moment in
     let made = c.visit.ensures in
     let left = made.gate in
-    let Suits = IsOfWalk g.N.Named.config look.class.now.number in
-    let none = still_none Suits look.ask.who.turn me.others.caller.now in
-    let same = left.kept me.others look.class.now.history (refl, refl, walks_none look.ask.who look.ask.moment me.others.seen.now.sight look.class.now.history, none) in
+    let start = length me.others.owner.now.history in
+    let none = still_unwalked g.N.Named.config look.class.now.number start look.ask.who.turn me.others.seen.now.sight look.class.now.history me.others.caller.now in
+    let same = left.kept me.others look.class.now.history (refl, refl, walks_none look.ask.who look.ask.moment me.others.seen.now.sight look.class.now.history, no_shorter start, none) in
     let keyed = subst (λ (k : Config). HasKeyOf c.args.stripe k look.class.now q) c.requires.look.served.serves.0 c.requires.look.key in
     record {
       holds = search rules;
@@ -57,7 +56,10 @@ returns-then-not-lends-clause-gate g c =
                   c.requires.look.judge keyed (c.lends.ensures.other c.if-not-lends.true was.0.0 was.0.1) made.answer made.err),
             ),
         searches_visited _ look.ask.config.now c.args.stripe _ _ q _ _ _ _ look.class.now c.visit.new.look.class.now c.visit.new.look.judged c.visit.result kept.2 same.2.sees made.answer made.err,
-        still_both Suits look.ask.who.turn first.others.caller.now me.others.caller.now c.visit.new.self.caller.now kept.3 same.3,
+        no_shorter_both (length first.others.owner.now.history) start (length c.visit.new.self.owner.now.history) kept.3 same.3,
+        still_on g.N.Named.config look.class.now.number (length first.others.owner.now.history) start look.ask.who.turn first.others.seen.now.sight me.others.seen.now.sight
+            c.visit.new.self.seen.now.sight begun look.class.now.history c.visit.new.look.class.now.history first.others.caller.now me.others.caller.now c.visit.new.self.caller.now
+            kept.3 kept.4 same.4,
       );
     }
 
@@ -71,6 +73,11 @@ returns-in_err-judge-clause-gate g c =
     let gate = c.requires.look.served.serves in
     let left = c.judge.ensures.left in
     let sees = subst (λ (v : SeenView). Grows v.sight c.judge.new.seen.sight) c.learn.ensures.same left.sees in
+    let still =
+    subst
+    (λ (v : SeenView). StillWalksFrom g.N.Named.config look.class.now.number (length me.others.owner.now.history) look.ask.who.turn v.sight c.judge.new.seen.sight look.class.now.history
+    c.judge.new.look.class.now.history me.others.caller.now c.judge.new.caller)
+    c.learn.ensures.same c.judge.ensures.still in
     let grows : StripeGrows w s c.judge.new.stripe.stripe = subst (λ (x : Stripe). StripeGrows w x c.judge.new.stripe.stripe) (ap (λ (x : StripeSide). x.stripe) c.learn.ensures.stripe) left.stripe in
     record {
       holds = search rules;
@@ -89,7 +96,10 @@ returns-in_err-judge-clause-gate g c =
                   (same_after look.class.now q g.N.Named.config.stripes w s me.others.answers.now.items c.reserve.new.self.items c.judge.new.look.class.now c.in_err-judge.ensures.err c.reserve.ensures.items),
             ),
         searches_failed look.ask.who look.ask.moment _ _ _ _ _ _ kept.2 sees (ap (λ (v : ClassView). v.history) c.in_err-judge.ensures.err),
-        still_both (IsOfWalk g.N.Named.config look.class.now.number) look.ask.who.turn first.others.caller.now me.others.caller.now c.judge.new.caller kept.3 c.judge.ensures.still,
+        no_shorter_both (length first.others.owner.now.history) (length me.others.owner.now.history) (length c.judge.new.owner.history) kept.3 c.judge.ensures.owner,
+        still_on g.N.Named.config look.class.now.number (length first.others.owner.now.history) (length me.others.owner.now.history) look.ask.who.turn first.others.seen.now.sight
+            me.others.seen.now.sight c.judge.new.seen.sight begun look.class.now.history c.judge.new.look.class.now.history first.others.caller.now me.others.caller.now c.judge.new.caller
+            kept.3 kept.4 still,
       );
     }
 
@@ -104,6 +114,11 @@ returns-clause-gate g c =
     let left = c.judge.ensures.left in
     let made = c.in_ok-judge.ensures.judged in
     let sees = subst (λ (v : SeenView). Grows v.sight c.judge.new.seen.sight) c.learn.ensures.same left.sees in
+    let still =
+    subst
+    (λ (v : SeenView). StillWalksFrom g.N.Named.config look.class.now.number (length me.others.owner.now.history) look.ask.who.turn v.sight c.judge.new.seen.sight look.class.now.history
+    c.judge.new.look.class.now.history me.others.caller.now c.judge.new.caller)
+    c.learn.ensures.same c.judge.ensures.still in
     let learnt : c.learn.new.self.stripe ≡ s = ap (λ (x : StripeSide). x.stripe) c.learn.ensures.stripe in
     let grows : StripeGrows w s c.judge.new.stripe.stripe = subst (λ (x : Stripe). StripeGrows w x c.judge.new.stripe.stripe) learnt left.stripe in
     let known = known_at look.class.now q g.N.Named.config look.ask.config.now s c.learn.new.self.stripe c.args.stripe c.judge.new.look.judged gate.0
@@ -127,6 +142,9 @@ returns-clause-gate g c =
                   c.judge.new.look.class.now.history c.judge.new.look.judged known answered (ap (λ (v : ClassView). v.history) made.class)),
             ),
         searches_judged q _ _ _ _ look.class.now c.judge.new.look.class.now c.judge.new.look.judged kept.2 sees made.class,
-        still_both (IsOfWalk g.N.Named.config look.class.now.number) look.ask.who.turn first.others.caller.now me.others.caller.now c.judge.new.caller kept.3 c.judge.ensures.still,
+        no_shorter_both (length first.others.owner.now.history) (length me.others.owner.now.history) (length c.judge.new.owner.history) kept.3 c.judge.ensures.owner,
+        still_on g.N.Named.config look.class.now.number (length first.others.owner.now.history) (length me.others.owner.now.history) look.ask.who.turn first.others.seen.now.sight
+            me.others.seen.now.sight c.judge.new.seen.sight begun look.class.now.history c.judge.new.look.class.now.history first.others.caller.now me.others.caller.now c.judge.new.caller
+            kept.3 kept.4 still,
       );
     }

@@ -1,12 +1,12 @@
-use Rattle.std.proofs.Common.{rules, ◌≡◌, ◌∙◌, ◌++◌, ◌∷◌, [], ℕ, List, None, ap, subst, sym}
+use Rattle.std.proofs.Common.{rules, ◌≡◌, ◌∙◌, ◌++◌, ◌∷◌, [], ℕ, List, None, ap, length, subst, sym}
 use Rattle.mc_item.specs.declared.{config.Config.Config, item.StripeNo.StripeNo, item.Who.Who}
 use Rattle.mc_pull.specs.{Looks.IsJudgedIf, Looks.answer_by, Question.question_of}
 use Rattle.mc_pull.specs.declared.looking.Answer.{Answer}
 use Rattle.mc_board.specs.{Histories.Grows, Views.SeenView}
 use Rattle.mc_segment.specs.ClassState.{ClassView}
-use Rattle.mc_store.specs.{Accounts.IsOfWalk, Serving.IsServed, Sides.StripeSide}
-use Rattle.mc_store.proofs.AccountLemmas.{still_both}
-use Rattle.mc_store.proofs.{CallerLemmas.asked_here, CallerLemmas.begun_sees, GateLemmas.passed_by, OwnEventLemmas.gains_judged, OwnEventLemmas.gains_none, OwnEventLemmas.walks_on}
+use Rattle.mc_store.specs.{Serving.IsServed, Sides.StripeSide, Walking.StillWalksFrom}
+use Rattle.mc_store.proofs.{CallerLemmas.asked_here, CallerLemmas.begun_sees, GateLemmas.no_shorter_both, GateLemmas.passed_by, GateLemmas.still_on}
+use Rattle.mc_store.proofs.OwnEventLemmas.{gains_judged, gains_none, walks_on}
 use Rattle.mc_store.proofs.gates.TryingGate.visit.Goals as goal
 
 pub judge-requires-clause-look : goal.judge-requires-clause-look
@@ -48,6 +48,11 @@ returns-in_err-judge-clause-gate g c =
     let gate = c.requires.look.served.serves in
     let left = c.judge.ensures.left in
     let sees = subst (λ (v : SeenView). Grows v.sight c.judge.new.seen.sight) c.learn.ensures.same left.sees in
+    let still =
+    subst
+    (λ (v : SeenView). StillWalksFrom g.N.Named.config look.class.now.number (length me.owner.now.history) look.ask.who.turn v.sight c.judge.new.seen.sight look.class.now.history
+    c.judge.new.look.class.now.history me.caller.now c.judge.new.caller)
+    c.learn.ensures.same c.judge.ensures.still in
     let same = ap (λ (v : ClassView). v.history) c.in_err-judge.ensures.err in
     record {
       holds = search rules;
@@ -61,7 +66,9 @@ returns-in_err-judge-clause-gate g c =
         kept.0,
         kept.1,
         walks_on look.ask.who look.ask.moment _ _ _ _ _ _ kept.2 sees (gains_none look.ask.who look.ask.moment look.class.now.history c.judge.new.look.class.now.history same),
-        still_both (IsOfWalk g.N.Named.config look.class.now.number) look.ask.who.turn first.caller.now me.caller.now c.judge.new.caller kept.3 c.judge.ensures.still,
+        no_shorter_both (length first.owner.now.history) (length me.owner.now.history) (length c.judge.new.owner.history) kept.3 c.judge.ensures.owner,
+        still_on g.N.Named.config look.class.now.number (length first.owner.now.history) (length me.owner.now.history) look.ask.who.turn first.seen.now.sight me.seen.now.sight c.judge.new.seen.sight
+            begun look.class.now.history c.judge.new.look.class.now.history first.caller.now me.caller.now c.judge.new.caller kept.3 kept.4 still,
       );
     }
 
@@ -72,6 +79,11 @@ returns-clause-gate g c =
     let gate = c.requires.look.served.serves in
     let left = c.judge.ensures.left in
     let sees = subst (λ (v : SeenView). Grows v.sight c.judge.new.seen.sight) c.learn.ensures.same left.sees in
+    let still =
+    subst
+    (λ (v : SeenView). StillWalksFrom g.N.Named.config look.class.now.number (length me.owner.now.history) look.ask.who.turn v.sight c.judge.new.seen.sight look.class.now.history
+    c.judge.new.look.class.now.history me.caller.now c.judge.new.caller)
+    c.learn.ensures.same c.judge.ensures.still in
     let gains = gains_judged look.class.now c.judge.new.look.class.now (question_of look.ask) c.judge.new.look.judged c.in_ok-judge.ensures.judged.class in
     record {
       holds = search rules;
@@ -85,7 +97,9 @@ returns-clause-gate g c =
         kept.0,
         kept.1,
         walks_on look.ask.who look.ask.moment _ _ _ _ _ _ kept.2 sees gains,
-        still_both (IsOfWalk g.N.Named.config look.class.now.number) look.ask.who.turn first.caller.now me.caller.now c.judge.new.caller kept.3 c.judge.ensures.still,
+        no_shorter_both (length first.owner.now.history) (length me.owner.now.history) (length c.judge.new.owner.history) kept.3 c.judge.ensures.owner,
+        still_on g.N.Named.config look.class.now.number (length first.owner.now.history) (length me.owner.now.history) look.ask.who.turn first.seen.now.sight me.seen.now.sight c.judge.new.seen.sight
+            begun look.class.now.history c.judge.new.look.class.now.history first.caller.now me.caller.now c.judge.new.caller kept.3 kept.4 still,
       );
     }
 

@@ -9,8 +9,9 @@ use Rattle.mc_pull.specs.Growth as classes
 use Rattle.mc_hits.specs.Rule.{AreBefore}
 use Rattle.mc_store.specs.{Callers.call_events, Callers.limits_of, Callers.turns_of, Calls.IsSeenGrowOf, Finals.IsBehindAt, Locked.IsHeldClass, Locked.caller_place, Made.HasNoneMadeBy, Made.IsLimitCalled}
 use Rattle.mc_store.specs.{Accounts.StillCalls, Callers.placed_in, Locked.class_lock, Passes.CallerView, Passes.PassView, Passes.next_who, Passes.pass_of, Sides.ClassSide, Sides.class_told}
-use Rattle.mc_store.proofs.{AccountLemmas.enters_in, AccountLemmas.enters_same, CallerLemmas.on_ok_always}
-use Rattle.mc_store.proofs.{GrownClassLemmas.class_grew, GrownClassLemmas.fails_full, LimitedClassLemmas.limit_seen, LimitedClassLemmas.limited_so, LimitedClassLemmas.unlimited_so}
+use Rattle.mc_store.specs.Walking.{class_sight}
+use Rattle.mc_store.proofs.{AccountLemmas.enters_in, AccountLemmas.enters_later, AccountLemmas.enters_same, CallerLemmas.on_ok_always}
+use Rattle.mc_store.proofs.{GrownClassLemmas.class_grew, GrownClassLemmas.class_shared, GrownClassLemmas.lacks_seen, LimitedClassLemmas.limit_seen, LimitedClassLemmas.limited_so, LimitedClassLemmas.unlimited_so}
 use Rattle.mc_store.proofs.PlacedLemmas.{placed_same, placed_sees}
 use Rattle.mc_store.proofs.SeenStripeLemmas.{on_err_more}
 use Rattle.mc_store.proofs.store.Store.chunks.Given.{Over}
@@ -87,8 +88,8 @@ returns-clause-cut g c =
 pub returns-clause-full : goal.returns-clause-full
 returns-clause-full g c = λ is.
     let at = (goal.at.returns-clause-full g c).After-share in
-    inl (fails_full g.N.Named.board.table g.N.Named.config c.args.class c.args.pass.now.sight c.share.new.seen.sight (old_side g at) (new_side g at) (old_kept g at) (new_kept g at)
-    (number g at) (grew g at) (behind g at) (told g at) (all g at) c.limit_under-limited.result c.limit_under-limited.ensures.fault is)
+    inl (lacks_seen g.N.Named.board.table g.N.Named.config c.args.class c.args.pass.now.sight c.share.new.seen.sight (old_side g at) (new_side g at) (old_kept g at) (new_kept g at)
+    (number g at) (grew g at) (behind g at) (told g at) (all g at) (c.limit_under-limited.ensures.full is))
 
 pub returns-clause-turn : goal.returns-clause-turn
 returns-clause-turn g c = (
@@ -124,16 +125,20 @@ returns-clause-account g c =
     let at = (goal.at.returns-clause-account g c).After-share in
     let config = g.N.Named.config in
     let old = c.args.pass.now in
-    let told = c.tell_class.new.self in
+    let teller = c.tell_class.new.self in
     let is : c.tell_class.new.class.class.number ≡ c.args.class = ap (λ (v : ClassView). v.number) (class_is g at) ∙ number g at in
-    let made : told.made ≡ old.made = ap (λ (k : CallerView). k.made) c.tell_class.ensures.same ∙ ap (λ (p : PassView). p.made) (took g at) in
-    enters_in (λ class lock. lock ≡ class_lock config class) c.tell_class.new.class.class.number c.args.class c.in_ok-who.who.turn old.turn told.made old.made c.limit_under-limited.new.caller.made is
-    (ap (λ (w : Who). w.turn) c.in_ok-who.ensures.took.who) made c.limit_under-limited.ensures.same.1.enters
+    let made : teller.made ≡ old.made = ap (λ (k : CallerView). k.made) c.tell_class.ensures.same ∙ ap (λ (p : PassView). p.made) (took g at) in
+    let entered =
+    enters_later (λ lock place event. lock ≡ class_lock config c.tell_class.new.class.class.number) c.in_ok-who.who.turn {mid = class_sight config (new_side g at)} {after = c.share.new.seen.sight}
+    teller.made c.limit_under-limited.new.caller.made
+    (class_shared g.N.Named.board.table config (new_side g at) c.share.new.seen.sight (new_kept g at) (told g at) (all g at)) c.limit_under-limited.ensures.same.1.enters in
+    enters_in (λ class lock place event. lock ≡ class_lock config class) c.tell_class.new.class.class.number c.args.class c.in_ok-who.who.turn old.turn teller.made old.made
+    c.limit_under-limited.new.caller.made is (ap (λ (w : Who). w.turn) c.in_ok-who.ensures.took.who) made entered
 
 pub returns-in_err-who-clause-account : goal.returns-in_err-who-clause-account
 returns-in_err-who-clause-account g c =
     let old = c.args.pass.now in
-    enters_same (λ lock. lock ≡ class_lock g.N.Named.config c.args.class) old.turn old.made c.take_turn_in.new.self.made (ap (λ (p : PassView). p.made) c.in_err-who.ensures.err)
+    enters_same (λ lock place event. lock ≡ class_lock g.N.Named.config c.args.class) old.turn old.made c.take_turn_in.new.self.made (ap (λ (p : PassView). p.made) c.in_err-who.ensures.err)
 
 pub invariant_of-pass : goal.invariant_of-pass
 invariant_of-pass g c =
@@ -141,8 +146,10 @@ invariant_of-pass g c =
     let i = c.pass.invariant in
     let new = c.limit_under-limited.new.caller in
     let still =
-    subst (λ (k : CallerView). StillCalls (λ lock. lock ≡ class_lock config c.tell_class.new.class.class.number) c.in_ok-who.who.turn k new) c.tell_class.ensures.same
-    c.limit_under-limited.ensures.same.1 in
+    subst
+    (λ (k : CallerView). StillCalls (λ lock place event. lock ≡ class_lock config c.tell_class.new.class.class.number) c.in_ok-who.who.turn (class_sight config c.tell_class.new.class)
+    (class_sight config c.limit_under-limited.new.class) k new)
+    c.tell_class.ensures.same c.limit_under-limited.ensures.same.1 in
     let seen : c.compare.new.seen ≡ c.pass.inside.seen = c.compare.ensures.same.1 in
     let grows : Grows c.pass.inside.seen.sight c.share.new.seen.sight = subst (λ (v : SeenView). Grows v.sight c.share.new.seen.sight) seen c.share.ensures.grows.seen in (
       c.share.ensures.board ∙ (ap (λ (v : SeenView). v.board) seen ∙ i.0),

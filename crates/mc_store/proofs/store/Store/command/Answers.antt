@@ -1,5 +1,5 @@
 use Rattle.std.proofs.Common.{◌≡◌, ◌∙◌, ◌⊎◌, ◌<◌, ◌+◌, ◌++◌, ◌∷◌, [], refl, ℕ, List, Result, ap, inr, length, subst, sym}
-use Rattle.std.specs.Prelude.{IfErr, IfOk, IfSome, Option}
+use Rattle.std.specs.Prelude.{IfSome, Option}
 use Rattle.mc_item.specs.{Command.key_of, Measure.stripe_of}
 use Rattle.mc_item.specs.declared.{config.Config.Config, fault.Fault.Fault, item.Link.Link, item.StripeNo.StripeNo, item.Who.Who, reply.Reply.Reply}
 use Rattle.mc_evidence.specs.Setting.{IsClass}
@@ -7,15 +7,12 @@ use Rattle.mc_item.specs.declared.call_event.CallEvent.{CallEvent}
 use Rattle.mc_hits.specs.{Rule.AreBefore, Views.HandsView}
 use Rattle.mc_board.specs.{Histories.Grows, Histories.HasSeen, Histories.list_at, Views.SeenView}
 use Rattle.mc_board.specs.declared.rule.Sight.{Sight}
-use Rattle.mc_store.specs.{Hits.IsOffered, Hits.OffersOne, Locked.setting_of, Waking.reply_in, Waking.woken_in}
+use Rattle.mc_store.specs.{Hits.IsOffered, Hits.OffersOne, Locked.setting_of, Waking.woken_in}
 use Rattle.mc_store.specs.{Callers.HasNoneOf, Held.Ends, Held.IsCallOn, Locked.IsLockedStripe, Passes.HasAsked, Passes.PassView, Passes.caller_of, Passes.next_who, Serving.IsLater, Sides.StripeSide, Sides.stripe_told}
 use Rattle.mc_store.proofs.{SeenStripeLemmas.IsShared, SeenStripeLemmas.asked_now, SeenStripeLemmas.if_err_more, SeenStripeLemmas.shared_by, SeenStripeLemmas.turns_kept, CallerLemmas.on_ok_always}
 use Rattle.mc_evidence.specs.Seen.{stripes_seen}
-use Rattle.mc_store.specs.{Callers.asked_for, Callers.turns_of, Calls.IsCutBy, Calls.IsRepliedBy, Passes.ArePlaced, Passes.next_call, Passes.pass_of}
+use Rattle.mc_store.specs.{Callers.asked_for, Callers.turns_of, Passes.ArePlaced, Passes.pass_of}
 use Rattle.mc_store.proofs.{PlacedLemmas.placed_shared, OfferedHitLemmas.woken_class, SeenStripeLemmas.offered_by}
-use Rattle.mc_board.specs.declared.rule.Span.{Span}
-use Rattle.mc_store.specs.Accounts.{Enters}
-use Rattle.mc_store.proofs.{AccountLemmas.enters_none, EnteredLemmas.Suits}
 use Rattle.mc_store.proofs.store.Store.command.Given.{Over}
 use Rattle.mc_store.proofs.store.Store.command.Goals as goal
 use Rattle.mc_store.proofs.store.Store.command.Goals.{After-compare, After-share, in-None, in-Some}
@@ -45,7 +42,7 @@ pub answer-replied-requires : goal.answer-replied-requires
 answer-replied-requires g c = record { called = called g (goal.at.answer-replied-requires g c).After-compare }
 
 -- how the command ended, by either way
-ends : (g : Over) (c : After-share g) → Ends g.N.Named.config c.compare.new.self.stripe c.match-class_for.own c.pass.inside.caller
+ends : (g : Over) (c : After-share g) → Ends g.N.Named.config c.compare.new.self c.match-class_for.own c.pass.inside.caller
     c.match-class_for.pass-inside.caller c.args.command (record { who = c.in_ok-who.who; moment = c.args.moment }) c.match-class_for.replied
 ends g c = elim c.match-class_for.branch [
   | in-Some w ↦ rw (w.own-is, w.pass-inside-is, w.replied-is) w.answer_for-replied.ensures
@@ -60,13 +57,16 @@ rest g c = elim c.match-class_for.branch [ in-Some w ↦ rw w.pass-inside-is | i
 below_stripes : (g : Over) (c : After-compare g) → c.compare.new.self.stripe.site.stripe < g.N.Named.config.stripes
 below_stripes g c = (subst (IsLockedStripe g.N.Named.board.table g.N.Named.config) (sym c.compare.ensures.same.0) c.own.invariant).of
 
--- and what the pass has of it
+-- the pass behind the call
+abbrev pass_then : (g : Over) (c : goal.After-reply_of g) → PassView
+pass_then g c = pass_of c.match-class_for.pass-inside.caller c.share.new.seen.sight c.offer.new.hands
+
+-- and what it has of the command
 shared : (g : Over) (c : goal.After-reply_of g)
-    → IsShared g.N.Named.config (stripe_of (key_of c.args.command) g.N.Named.config.stripes).0 c.args.pass.now.sight c.share.new.seen.sight
-    c.args.pass.now.calls c.match-class_for.pass-inside.caller.calls (next_who c.args.pass.now) c.args.command c.args.moment c.reply_of.result
+    → IsShared g.N.Named.config (stripe_of (key_of c.args.command) g.N.Named.config.stripes).0 c.args.pass.now (pass_then g c) c.args.command c.args.moment c.reply_of.result
 shared g c =
     let config = g.N.Named.config in
-    let before = c.args.pass.now.sight in
+    let old = c.args.pass.now in
     let after = c.share.new.seen.sight in
     let r = c.match-class_for.replied in
     let at = goal.at.returns-clause-replied g c in
@@ -78,14 +78,11 @@ shared g c =
     (subst (λ (s : StripeSide). HasSeen (stripe_told s.stripe.history) c.pass.inside.seen.sight s.lock) (sym c.compare.ensures.same.0) c.compare.ensures.behind.seen) in
     let told = subst (λ (s : StripeSide). list_at after.seen s.lock ≡ stripe_told s.stripe.history) c.own-2.view_is c.share.ensures.told in
     let grows = subst (λ (s : StripeSide). Grows s.sight after) c.own-2.view_is c.share.ensures.all in
-    let first = subst (λ (who : Who). HasNoneOf who c.compare.new.self.stripe.history) (sym c.in_ok-who.ensures.took.who)
-    (subst (λ (s : StripeSide). HasNoneOf (next_who c.args.pass.now) s.stripe.history)
-    (sym (c.compare.ensures.same.0 ∙ (c.own.view_is ∙ c.in_ok-who.ensures.stripe))) c.in_ok-who.ensures.first) in
-    subst (λ (x : Result Reply Fault). IsShared config (stripe_of (key_of c.args.command) config.stripes).0 before after c.args.pass.now.calls
-    c.match-class_for.pass-inside.caller.calls (next_who c.args.pass.now) c.args.command c.args.moment x) (sym c.reply_of.ensures)
-    (subst (λ (who : Who). IsShared config (stripe_of (key_of c.args.command) config.stripes).0 before after c.args.pass.now.calls
-    c.match-class_for.pass-inside.caller.calls who c.args.command c.args.moment (reply_in r)) c.in_ok-who.ensures.took.who
-    (shared_by before old_kept new_kept number seen told grows r c.args.pass.now.calls (ends g at.After-share) (ap (λ (p : PassView). p.calls) pass) first))
+    let first = subst (λ (s : StripeSide). HasNoneOf (next_who old) s.stripe.history)
+    (sym (c.compare.ensures.same.0 ∙ (c.own.view_is ∙ c.in_ok-who.ensures.stripe))) c.in_ok-who.ensures.first in
+    subst (λ (x : Result Reply Fault). IsShared config (stripe_of (key_of c.args.command) config.stripes).0 old (pass_then g c) c.args.command c.args.moment x) (sym c.reply_of.ensures)
+    (shared_by old old_kept new_kept number seen told grows r c.offer.new.hands (ends g at.After-share) c.in_ok-who.ensures.took.who (ap (λ (p : PassView). p.calls) pass)
+    (ap (λ (p : PassView). p.made) pass) first)
 
 pub returns-clause-replied : goal.returns-clause-replied
 returns-clause-replied g c = (shared g c).replied
@@ -101,22 +98,6 @@ returns-clause-grows g c =
 
 pub returns-clause-caller : goal.returns-clause-caller
 returns-clause-caller g c = (ends g (goal.at.returns-clause-caller g c).After-share).number ∙ ap (λ (p : PassView). p.caller) (c.pass.view_is ∙ c.in_ok-who.ensures.took.turn)
-
-pub returns-clause-account : goal.returns-clause-account
-returns-clause-account g c =
-    let at = (goal.at.returns-clause-account g c).After-share in
-    let old = c.args.pass.now in
-    let made = c.match-class_for.pass-inside.caller.made in
-    let suits = Suits g.N.Named.config c.args.command in
-    let was = ap (λ (p : PassView). p.made) (c.pass.view_is ∙ c.in_ok-who.ensures.took.turn) in
-    subst (λ (n : ℕ). Enters suits n old.made made) (ap (λ (w : Who). w.turn) c.in_ok-who.ensures.took.who)
-    (subst (λ (m : List Span). Enters suits c.in_ok-who.who.turn m made) was (ends g at).enters)
-
-pub returns-in_err-who-clause-account : goal.returns-in_err-who-clause-account
-returns-in_err-who-clause-account g c =
-    let old = c.args.pass.now in
-    subst (λ (p : PassView). Enters (Suits g.N.Named.config c.args.command) old.turn old.made p.made) (sym c.in_err-who.ensures.err)
-    (enters_none (Suits g.N.Named.config c.args.command) old.turn old.made)
 
 pub returns-clause-turn : goal.returns-clause-turn
 returns-clause-turn g c =
@@ -135,7 +116,7 @@ offer-requires-clause-class g c =
     let config = g.N.Named.config in
     let at = (goal.at.offer-requires-clause-class g c).After-share in
     subst (λ (o : Option Link). IfSome o (λ link. IsClass (setting_of config) link.class)) (sym c.woken_of.ensures)
-    (woken_class table config c.compare.new.self.stripe c.match-class_for.own c.pass.inside.caller c.match-class_for.pass-inside.caller c.args.command
+    (woken_class table config c.compare.new.self c.match-class_for.own c.pass.inside.caller c.match-class_for.pass-inside.caller c.args.command
     (record { who = c.in_ok-who.who; moment = c.args.moment }) c.match-class_for.replied (subst (IsLockedStripe table config) c.own-2.view_is c.own-2.invariant) (ends g at))
 
 pub offer-requires-clause-hands : goal.offer-requires-clause-hands
@@ -171,7 +152,7 @@ returns-clause-offers g c =
     (subst (λ (o : Option Link). OffersOne who.turn o c.match-class_for.pass-inside.hands c.offer.new.hands) c.woken_of.ensures c.offer.ensures.offers) in
     subst (λ (w : Who). (c.offer.new.hands ≡ old.hands)
     ⊎ IsOffered config (stripe_of (key_of c.args.command) config.stripes).0 after w c.args.command c.args.moment old.hands c.offer.new.hands) c.in_ok-who.ensures.took.who
-    (offered_by old.sight old_kept new_kept number seen told grows r (ends g at.After-share) old.hands c.offer.new.hands mine offers)
+    (offered_by old old_kept new_kept number seen told grows r (ends g at.After-share) old.hands c.offer.new.hands mine offers)
 
 pub invariant_of-pass : goal.invariant_of-pass
 invariant_of-pass g c =
@@ -193,14 +174,10 @@ invariant_of-pass g c =
     let number : c.match-class_for.pass-inside.caller.number ≡ old.caller = ended.number ∙ ap (λ (p : PassView). p.caller) took in
     let begun : ArePlaced config (record { number = old.caller; calls = old.calls ++ asked_for c.args.command c.args.moment ∷ []; made = old.made }) (stripes_seen (list_at old.sight.seen)) =
     subst (λ (p : PassView). ArePlaced config (caller_of p) (stripes_seen (list_at p.sight.seen))) took i.1 in
-    let who : next_call (caller_of old) ≡ next_who old = ap (λ (n : ℕ). record { caller = old.caller; turn = n }) c.in_ok-who.ensures.turns in (
+    let behind = shared g c in (
       c.share.ensures.board ∙ (ap (λ p. p.seen.board) (rest g at) ∙ (ap (λ (v : SeenView). v.board) c.compare.ensures.same.1 ∙ i.0)),
-      placed_shared config (stripe_of (key_of c.args.command) config.stripes).0 old.sight c.share.new.seen.sight (caller_of old) c.match-class_for.pass-inside.caller c.args.command c.args.moment
-          below number grows begun c.reply_of.result
-          (subst (λ (w : Who). IfOk c.reply_of.result (IsRepliedBy config (stripe_of (key_of c.args.command) config.stripes).0 old.sight c.share.new.seen.sight old.calls
-          c.match-class_for.pass-inside.caller.calls w c.args.command c.args.moment)) (sym who) (shared g c).replied)
-          (subst (λ (w : Who). IfErr c.reply_of.result (IsCutBy config (stripe_of (key_of c.args.command) config.stripes).0 old.sight c.share.new.seen.sight old.calls
-          c.match-class_for.pass-inside.caller.calls w c.args.command c.args.moment)) (sym who) (shared g c).cut),
+      placed_shared config (stripe_of (key_of c.args.command) config.stripes).0 old (pass_then g c) c.args.command c.args.moment below number c.in_ok-who.ensures.turns grows begun c.reply_of.result
+          behind.replied behind.cut,
       ap (λ (h : HandsView). h.tables) same ∙ (ap (λ p. p.hands.tables) (rest g at) ∙ i.2),
       ap (λ (h : HandsView). h.caller) same ∙ (ap (λ p. p.hands.caller) (rest g at) ∙ (i.3 ∙ sym ended.number)),
       subst (λ (n : ℕ). AreBefore n c.offer.new.hands.offers) next c.offer.ensures.before,

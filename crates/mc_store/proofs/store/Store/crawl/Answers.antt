@@ -81,7 +81,8 @@ loop-i-preserved g c =
       ap (λ (p : PassView). p.calls) c.crawl_link.ensures.same.0 ∙ i.8,
       c.crawl_link.ensures.sound,
       ap (λ (p : PassView). p.hands) c.crawl_link.ensures.same.0 ∙ i.10,
-      enters_both (IsOfWalk config c.args.class) c.in_ok-who.who.turn pass.made c.loop-i.pass.made new.made i.11 c.crawl_link.ensures.same.1,
+      enters_both (IsOfWalk config c.args.class) c.in_ok-who.who.turn {mid = c.loop-i.pass.sight} {after = new.sight} pass.made c.loop-i.pass.made new.made i.11 c.crawl_link.ensures.grows.seen
+          c.crawl_link.ensures.same.1,
     )
 
 pub returns-clause-crawled : goal.returns-clause-crawled
@@ -133,15 +134,16 @@ returns-clause-turn g c =
 pub returns-clause-account : goal.returns-clause-account
 returns-clause-account g c =
     let i = c.loop-i.invariant in
-    subst (λ (who : Who). Enters (IsOfWalk g.N.Named.config c.args.class) who.turn c.args.pass.now.made c.loop-i.pass.made) i.7 i.11
+    subst (λ (who : Who). Enters (IsOfWalk g.N.Named.config c.args.class) who.turn c.loop-i.pass.sight c.args.pass.now.made c.loop-i.pass.made) i.7 i.11
 
 pub returns-in_err-crawl_link-clause-account : goal.returns-in_err-crawl_link-clause-account
 returns-in_err-crawl_link-clause-account g c =
     let i = c.loop-i.invariant in
     let Suits = IsOfWalk g.N.Named.config c.args.class in
     let old = c.args.pass.now.made in
-    let new = c.crawl_link.new.pass.made in
-    subst (λ (who : Who). Enters Suits who.turn old new) i.7 (enters_both Suits c.in_ok-who.who.turn old c.loop-i.pass.made new i.11 c.crawl_link.ensures.same.1)
+    let new = c.crawl_link.new.pass in
+    subst (λ (who : Who). Enters Suits who.turn new.sight old new.made) i.7
+    (enters_both Suits c.in_ok-who.who.turn {mid = c.loop-i.pass.sight} {after = new.sight} old c.loop-i.pass.made new.made i.11 c.crawl_link.ensures.grows.seen c.crawl_link.ensures.same.1)
 
 pub returns-in_err-links-clause-account : goal.returns-in_err-links-clause-account
 returns-in_err-links-clause-account g c =

@@ -12,4 +12,4 @@ invariant-loop-i g l =
     × IsLater l.fn.pass.sight l.pass.sight × (l.pass.caller ≡ l.fn.pass.caller) × (l.pass.turn ≡ l.fn.pass.turn + 1) × (l.who ≡ next_who l.fn.pass)
     × (l.pass.calls ≡ l.fn.pass.calls ++ crawling_of l.class l.moment ∷ [])
     × IsSeenSound g.N.Named.config l.class l.pass.sight × (l.pass.hands ≡ l.fn.pass.hands)
-    × Enters (IsOfWalk g.N.Named.config l.class) l.who.turn l.fn.pass.made l.pass.made
+    × Enters (IsOfWalk g.N.Named.config l.class) l.who.turn l.pass.sight l.fn.pass.made l.pass.made

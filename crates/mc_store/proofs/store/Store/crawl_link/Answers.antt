@@ -8,12 +8,12 @@ use Rattle.mc_item.specs.declared.{call_event.CallEvent.CallEvent, item.ClassNo.
 use Rattle.mc_store.specs.{Callers.crawling_of, Crawls.CountsOne, Crawls.HasCountedLink, Finals.IsBehindAt, Locked.HasBegunAs}
 use Rattle.mc_store.specs.{Locked.IsHeldClass, Passes.PassView, Passes.HasCalled, Passes.caller_of, Sides.ClassSide, Sides.class_told}
 use Rattle.mc_store.proofs.{CrawledLemmas.link_seen, CrawledLemmas.on_ok_more, GrownClassLemmas.class_grew, GrownClassLemmas.fails_full}
-use Rattle.mc_store.proofs.{GrownClassLemmas.seen_sound}
+use Rattle.mc_store.proofs.GrownClassLemmas.{class_shared, seen_sound}
 use Rattle.mc_board.specs.Views.{SeenView}
 use Rattle.mc_evidence.specs.Seen.{stripes_seen}
 use Rattle.mc_hits.specs.Rule.{AreBefore}
-use Rattle.mc_store.specs.{Accounts.Enters, Accounts.IsOfWalk, Accounts.StillCalls, Callers.placed_in, Callers.turns_of, Passes.CallerView}
-use Rattle.mc_store.proofs.{AccountLemmas.still_pass, PlacedLemmas.placed_same, PlacedLemmas.placed_sees}
+use Rattle.mc_store.specs.{Accounts.Enters, Accounts.IsOfWalk, Accounts.StillCalls, Callers.placed_in, Callers.turns_of, Passes.CallerView, Walking.class_sight}
+use Rattle.mc_store.proofs.{AccountLemmas.enters_later, AccountLemmas.still_pass, PlacedLemmas.placed_same, PlacedLemmas.placed_sees}
 use Rattle.mc_store.proofs.store.Store.crawl_link.Goals as goal
 
 pub returns-clause-full : goal.returns-clause-full
@@ -108,12 +108,20 @@ returns-clause-same g c =
     let Suits = IsOfWalk config c.args.crawling.class in
     let turn = c.args.crawling.turn.who.turn in
     let old = c.pass.inside.caller in
-    let new = c.crawl_under-done.new.caller in
-    let still : StillCalls Suits turn old new =
-    subst (λ (k : CallerView). StillCalls Suits turn k new) c.tell_class.ensures.same
-    (subst (λ (n : ClassNo). StillCalls (IsOfWalk config n) turn c.tell_class.new.self new) number c.crawl_under-done.ensures.still) in (
-      still_pass Suits turn old new c.pass.inside.seen.sight c.share.new.seen.sight c.pass.inside.hands c.args.pass.now still c.pass.view_is,
-      subst (λ (p : PassView). Enters Suits turn p.made new.made) c.pass.view_is still.enters,
+    let last = c.crawl_under-done.new.caller in
+    let new = c.crawl_under-done.new.class in
+    let new_kept : IsHeldClass g.N.Named.board.table config new = subst (IsHeldClass g.N.Named.board.table config) c.own-2.view_is c.own-2.invariant.held in
+    let whole : list_at c.share.new.seen.sight.seen new.lock ≡ class_told new.class.history =
+    subst (λ (x : ClassSide). list_at c.share.new.seen.sight.seen x.lock ≡ class_told x.class.history) c.own-2.view_is c.share.ensures.told in
+    let all : Grows new.sight c.share.new.seen.sight = subst (λ (x : ClassSide). Grows x.sight c.share.new.seen.sight) c.own-2.view_is c.share.ensures.all in
+    let first = class_sight config c.tell_class.new.class in
+    let still : StillCalls Suits turn first (class_sight config new) old last =
+    subst (λ (k : CallerView). StillCalls Suits turn first (class_sight config new) k last) c.tell_class.ensures.same
+    (subst (λ (n : ClassNo). StillCalls (IsOfWalk config n) turn first (class_sight config new) c.tell_class.new.self last) number c.crawl_under-done.ensures.still) in (
+      still_pass Suits turn {x = first} {y = class_sight config new} old last c.pass.inside.seen.sight c.share.new.seen.sight c.pass.inside.hands c.args.pass.now still c.pass.view_is,
+      subst (λ (p : PassView). Enters Suits turn c.share.new.seen.sight p.made last.made) c.pass.view_is
+          (enters_later Suits turn {mid = class_sight config new} {after = c.share.new.seen.sight} old.made last.made
+          (class_shared g.N.Named.board.table config new c.share.new.seen.sight new_kept whole all) still.enters),
     )
 
 pub invariant_of-pass : goal.invariant_of-pass
@@ -122,7 +130,10 @@ invariant_of-pass g c =
     let i = c.pass.invariant in
     let new = c.crawl_under-done.new.caller in
     let still =
-    subst (λ (k : CallerView). StillCalls (IsOfWalk config c.tell_class.new.class.class.number) c.args.crawling.turn.who.turn k new) c.tell_class.ensures.same c.crawl_under-done.ensures.still in
+    subst
+    (λ (k : CallerView). StillCalls (IsOfWalk config c.tell_class.new.class.class.number) c.args.crawling.turn.who.turn (class_sight config c.tell_class.new.class)
+    (class_sight config c.crawl_under-done.new.class) k new)
+    c.tell_class.ensures.same c.crawl_under-done.ensures.still in
     let seen : c.compare.new.seen ≡ c.pass.inside.seen = c.compare.ensures.same.1 in
     let grows : Grows c.pass.inside.seen.sight c.share.new.seen.sight = subst (λ (v : SeenView). Grows v.sight c.share.new.seen.sight) seen c.share.ensures.grows.seen in (
       c.share.ensures.board ∙ (ap (λ (v : SeenView). v.board) seen ∙ i.0),

@@ -9,10 +9,10 @@ use Rattle.mc_pull.specs.Growth as classes
 use Rattle.mc_hits.specs.{Rule.AreBefore, Views.HandsView}
 use Rattle.mc_store.specs.{Calls.IsUpkept, Finals.IsBehindAt, Locked.HasBegunAs, Locked.IsHeldClass, Sides.ClassSide, Sides.class_told, Callers.juggling_of}
 use Rattle.mc_evidence.specs.Seen.{stripes_seen}
-use Rattle.mc_store.proofs.{AccountLemmas.enters_in, AccountLemmas.enters_same, CallerLemmas.on_ok_always, PlacedLemmas.placed_same, PlacedLemmas.placed_sees}
+use Rattle.mc_store.proofs.{AccountLemmas.enters_in, AccountLemmas.enters_later, AccountLemmas.enters_same, CallerLemmas.on_ok_always, PlacedLemmas.placed_same, PlacedLemmas.placed_sees}
 use Rattle.mc_store.specs.{Accounts.IsOfWalk, Accounts.StillCalls, Callers.placed_in, Callers.turns_of, Made.HasNoneMadeBy, Passes.next_who, Hits.Takes, Hits.queue_of, Locked.setting_of}
-use Rattle.mc_store.specs.Passes.{CallerView, PassView, HasCalled, caller_of}
-use Rattle.mc_store.proofs.{GrownClassLemmas.fails_full, GrownClassLemmas.juggled_so, SeenStripeLemmas.called_now, TakenHitLemmas.takes_none}
+use Rattle.mc_store.specs.{Passes.CallerView, Passes.PassView, Passes.HasCalled, Passes.caller_of, Walking.class_sight}
+use Rattle.mc_store.proofs.{GrownClassLemmas.class_shared, GrownClassLemmas.fails_full, GrownClassLemmas.juggled_so, SeenStripeLemmas.called_now, TakenHitLemmas.takes_none}
 use Rattle.mc_store.proofs.store.Store.juggle.Goals as goal
 
 pub returns-clause-juggled : goal.returns-clause-juggled
@@ -120,8 +120,16 @@ returns-clause-account g c =
     let old = c.args.pass.now in
     let told = c.tell_class.new.self in
     let made : told.made ≡ old.made = ap (λ (k : CallerView). k.made) c.tell_class.ensures.same ∙ ap (λ (p : PassView). p.made) (c.pass.view_is ∙ c.in_ok-who.ensures.took.turn) in
+    let new = c.upkeep_under-moves.new.class in
+    let new_kept : IsHeldClass g.N.Named.board.table config new = subst (IsHeldClass g.N.Named.board.table config) c.own-2.view_is c.own-2.invariant.held in
+    let whole : list_at c.share.new.seen.sight.seen new.lock ≡ class_told new.class.history =
+    subst (λ (x : ClassSide). list_at c.share.new.seen.sight.seen x.lock ≡ class_told x.class.history) c.own-2.view_is c.share.ensures.told in
+    let all : Grows new.sight c.share.new.seen.sight = subst (λ (x : ClassSide). Grows x.sight c.share.new.seen.sight) c.own-2.view_is c.share.ensures.all in
+    let entered =
+    enters_later (IsOfWalk config c.tell_class.new.class.class.number) c.in_ok-who.who.turn {mid = class_sight config new} {after = c.share.new.seen.sight} told.made c.upkeep_under-moves.new.caller.made
+    (class_shared g.N.Named.board.table config new c.share.new.seen.sight new_kept whole all) c.upkeep_under-moves.ensures.still.enters in
     enters_in (IsOfWalk config) c.tell_class.new.class.class.number c.args.class c.in_ok-who.who.turn old.turn told.made old.made c.upkeep_under-moves.new.caller.made number
-    (ap (λ (w : Who). w.turn) c.in_ok-who.ensures.took.who) made c.upkeep_under-moves.ensures.still.enters
+    (ap (λ (w : Who). w.turn) c.in_ok-who.ensures.took.who) made entered
 
 pub returns-in_err-who-clause-account : goal.returns-in_err-who-clause-account
 returns-in_err-who-clause-account g c =
@@ -135,7 +143,10 @@ invariant_of-pass g c =
     let same = c.upkeep_under-moves.ensures.same in
     let new = c.upkeep_under-moves.new.caller in
     let still =
-    subst (λ (k : CallerView). StillCalls (IsOfWalk config c.tell_class.new.class.class.number) c.in_ok-who.who.turn k new) c.tell_class.ensures.same c.upkeep_under-moves.ensures.still in
+    subst
+    (λ (k : CallerView). StillCalls (IsOfWalk config c.tell_class.new.class.class.number) c.in_ok-who.who.turn (class_sight config c.tell_class.new.class)
+    (class_sight config c.upkeep_under-moves.new.class) k new)
+    c.tell_class.ensures.same c.upkeep_under-moves.ensures.still in
     let seen : c.compare.new.seen ≡ c.pass.inside.seen = c.compare.ensures.same.1 in
     let grows : Grows c.pass.inside.seen.sight c.share.new.seen.sight = subst (λ (v : SeenView). Grows v.sight c.share.new.seen.sight) seen c.share.ensures.grows.seen in (
       c.share.ensures.board ∙ (ap (λ (v : SeenView). v.board) seen ∙ i.0),
