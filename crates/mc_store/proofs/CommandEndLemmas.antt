@@ -1,6 +1,6 @@
 -- How a command under the lock of its stripe ends, by how its steps end.
 use Rattle.std.proofs.Common.{◌≡◌, ◌++◌, ◌∷◌, [], ℕ, List, Result, Ok, Err, inl, inr, ⊎_elim, length, append-nil, arith, refl, ap, ◌∙◌, subst, sym}
-use Rattle.std.specs.Prelude.{◌≤◌, Option, Some, IsErrAnd, IsErrOf}
+use Rattle.std.specs.Prelude.{◌≤◌, Option, Some, IsErrAnd, IsErrOf, IsSomeAnd}
 use Rattle.mc_item.specs.{Answer.Row, Answer.row_of, Cache.Cache, Command.key_of, Stripe.IsAlive}
 use Rattle.mc_item.specs.declared.{answer.Need.Need, answer.Site.Site, call_event.CallEvent.CallEvent, command.Command.Command, config.Config.Config}
 use Rattle.mc_item.specs.declared.{fault.Fault.Fault, fault.Fault.TheVariants.HistoryFull, item.ClassNo.ClassNo, item.Link.Link, item.Who.Who}
@@ -15,12 +15,14 @@ use Rattle.mc_stripe.specs.{Wanting.IsWanting, Wanting.classes_for}
 use Rattle.mc_stripe.specs.declared.{wanting.Want.Want, trying.Turn.Turn}
 use Rattle.mc_pull.specs.{Perform.answer_to, Perform.call, Question.IsStripeOf}
 use Rattle.mc_store.specs.{Accounts.Enters, Accounts.IsOfCommand, Accounts.Stretch, Callers.answered_at, Calls.IsRepliedAs, Commands.IsCut, Commands.IsSearch, Commands.burial, Earned.IsEarned, Earned.IsEarnedIn}
-use Rattle.mc_store.specs.{Held.Ends, Held.IsMadeIn, Held.IsWalked, Held.Suffice, Held.nothing, Passes.CallerView, Full.IsFullFor, Searches.IsSearchFor, Sides.StripeSide, Sides.stripe_sight}
-use Rattle.mc_store.proofs.{CommandLemmas.buried_row, CommandLemmas.cache_same, CommandLemmas.fresh_visible, CommandLemmas.led_same, CommandLemmas.row_same, EarnedRefusalLemmas.earned_told}
+use Rattle.mc_store.specs.Held.{Ends, IsMadeIn, IsWalked, Suffice, nothing}
+use Rattle.mc_store.specs.{Passes.CallerView, Full.IsFullFor, Searches.IsSearchFor, Searches.IsSearchUpTo, Sides.StripeSide, Sides.stripe_sight}
+use Rattle.mc_store.proofs.CommandLemmas.{buried_alive, buried_row, cache_same, fresh_visible, led_same, not_dead, row_same}
+use Rattle.mc_store.proofs.{EarnedRefusalLemmas.earned_told}
 use Rattle.mc_store.proofs.FullLemmas.{full_buried, full_same}
 use Rattle.mc_store.proofs.AccountLemmas.{enters_both, enters_more}
-use Rattle.mc_store.proofs.EnteredLemmas.{StillMakes, command_as, makes_then_tried, makes_tried, no_stretch, noted_still}
-use Rattle.mc_store.specs.Trying.{StillTries}
+use Rattle.mc_store.proofs.EnteredLemmas.{StillMakes, command_as, makes_buried, makes_then_tried, makes_tried, no_stretch, noted_still}
+use Rattle.mc_store.specs.Trying.{StillBuries, StillTries}
 use Rattle.mc_store.specs.declared.replied.Replied.{Replied}
 use Rattle.mc_store.proofs.UnderLockLemmas.{IsSearched, active_moves, cut_behind, cut_from, replied_behind, replied_from, site_both}
 
@@ -33,6 +35,9 @@ module _ (config : Config) (command : Command) (turn : Turn) where
 
   abbrev Sought : (own end : StripeSide) → Stretch → Type 0
   Sought own end stretch = IsSearchFor config (visible_row own.stripe command turn.moment).need turn.who turn.moment end.sight stretch
+
+  abbrev SoughtUpTo : (own end : StripeSide) → Stretch → Type 0
+  SoughtUpTo own end stretch = IsSearchUpTo config (visible_row own.stripe command turn.moment).need turn.who turn.moment end.sight stretch
 
   -- a walk in the class that is needed is a search
   pub searched_walk : (s s_new : Stripe) (class : ClassNo) → IsAlive (item_of s command) turn.moment → (row_at s command turn.moment).need ≡ needs.Fresh class
@@ -62,6 +67,7 @@ module _ (config : Config) (command : Command) (turn : Turn) where
           stretch = stretch;
           enters = noted.enters;
           search = sought;
+          cut_search = tt;
           site = site_both s last end.stripe site more;
           full = λ is. absurd (ok_full reply is);
         }
@@ -71,8 +77,9 @@ module _ (config : Config) (command : Command) (turn : Turn) where
 
     -- it was broken off
     pub ends_cut : (stretch : Stretch) (end : StripeSide) (caller caller_new : CallerView) (fault : Fault) → KeepsSite mid.stripe end.stripe → end.stripe.history ≡ mid.stripe.history
-        → Makes stretch own end caller caller_new → (fault ≡ HistoryFull → IsFullFor config own.stripe end.stripe end.sight command turn.moment) → EndsBy own end caller caller_new (Err fault)
-    ends_cut stretch end caller caller_new fault more same still full = record {
+        → Makes stretch own end caller caller_new → SoughtUpTo own end stretch
+        → (fault ≡ HistoryFull → IsFullFor config own.stripe end.stripe end.sight command turn.moment) → EndsBy own end caller caller_new (Err fault)
+    ends_cut stretch end caller caller_new fault more same still sought full = record {
       replied = tt;
       cut = cut_behind config turn.who command turn.moment own.stripe mid.stripe alive searched end.stripe same;
       unnoted = still.calls_are;
@@ -81,6 +88,7 @@ module _ (config : Config) (command : Command) (turn : Turn) where
       stretch = stretch;
       enters = still.enters;
       search = tt;
+      cut_search = sought;
       site = site_both own.stripe mid.stripe end.stripe site more;
       full = λ is. full (err_fault fault HistoryFull is);
     }
@@ -90,54 +98,75 @@ module _ (config : Config) (command : Command) (turn : Turn) where
 
     -- with a fault that was handed on
     pub ends_err : (stretch : Stretch) (end : StripeSide) (caller caller_new : CallerView) (r : Result Replied Fault) (fault : Fault) → IsErrAnd r (λ x. x ≡ fault)
-        → KeepsSite mid.stripe end.stripe → end.stripe.history ≡ mid.stripe.history → Makes stretch own end caller caller_new
+        → KeepsSite mid.stripe end.stripe → end.stripe.history ≡ mid.stripe.history → Makes stretch own end caller caller_new → SoughtUpTo own end stretch
         → (fault ≡ HistoryFull → IsFullFor config own.stripe end.stripe end.sight command turn.moment) → EndsBy own end caller caller_new r
-    ends_err stretch end caller caller_new (Ok reply) fault is more same still full = absurd is
-    ends_err stretch end caller caller_new (Err e) fault is more same still full = ends_cut stretch end caller caller_new e more same still (λ at. full (sym is ∙ at))
+    ends_err stretch end caller caller_new (Ok reply) fault is more same still sought full = absurd is
+    ends_err stretch end caller caller_new (Err e) fault is more same still sought full = ends_cut stretch end caller caller_new e more same still sought (λ at. full (sym is ∙ at))
 
   -- no search was made
   pub no_search : (own end : StripeSide) → Sought own end no_stretch
   no_search own end =
       let none : 0 ≤ 0 = omega arith in inl none
 
-  -- before anything of it happened
-  pub ends_early : (own end : StripeSide) (caller caller_new : CallerView) (r : Result Replied Fault) (fault : Fault) → IsErrAnd r (λ x. x ≡ fault)
-      → KeepsSite own.stripe end.stripe → end.stripe.history ≡ own.stripe.history → StillTries config turn own end caller caller_new
+  -- before the command was made, with nothing left on its stripe
+  pub ends_broken : (own end : StripeSide) (caller caller_new : CallerView) (r : Result Replied Fault) (fault : Fault) → IsErrAnd r (λ x. x ≡ fault)
+      → KeepsSite own.stripe end.stripe → end.stripe.history ≡ own.stripe.history → Makes no_stretch own end caller caller_new
       → (fault ≡ HistoryFull → IsFullFor config own.stripe end.stripe end.sight command turn.moment) → EndsBy own end caller caller_new r
-  ends_early own end caller caller_new (Ok reply) fault is site same still full = absurd is
-  ends_early own end caller caller_new (Err e) fault is site same still full =
-      let makes = makes_tried config command turn no_stretch own end still in
-      record {
-        replied = tt;
-        cut = record { before = []; led_up = inl refl; history_is = same ∙ sym (append-nil own.stripe.history) };
-        unnoted = makes.calls_are;
-        number = makes.number_is;
-        sees = makes.sees;
-        stretch = no_stretch;
-        enters = makes.enters;
-        search = tt;
-        site = site;
-        full = λ at. full (sym is ∙ err_same e at);
-      }
+  ends_broken own end caller caller_new (Ok reply) fault is site same makes full = absurd is
+  ends_broken own end caller caller_new (Err e) fault is site same makes full = record {
+    replied = tt;
+    cut = record { before = []; led_up = inl refl; history_is = same ∙ sym (append-nil own.stripe.history) };
+    unnoted = makes.calls_are;
+    number = makes.number_is;
+    sees = makes.sees;
+    stretch = no_stretch;
+    enters = makes.enters;
+    search = tt;
+    cut_search = inl (no_search own end);
+    site = site;
+    full = λ at. full (sym is ∙ err_same e at);
+  }
     where
       err_same : (e : Fault) → IsErrOf {T = Replied} (Err e) HistoryFull → e ≡ HistoryFull
       err_same e at = cc at
 
+  -- before anything of it happened
+  pub ends_early : (own end : StripeSide) (caller caller_new : CallerView) (r : Result Replied Fault) (fault : Fault) → IsErrAnd r (λ x. x ≡ fault)
+      → KeepsSite own.stripe end.stripe → end.stripe.history ≡ own.stripe.history → StillTries config turn own end caller caller_new
+      → (fault ≡ HistoryFull → IsFullFor config own.stripe end.stripe end.sight command turn.moment) → EndsBy own end caller caller_new r
+  ends_early own end caller caller_new r fault is site same still full =
+      ends_broken own end caller caller_new r fault is site same (makes_tried config command turn no_stretch own end still) full
+
   -- behind steps without a search the account is what it gained by them, and then
   entered_behind : (stretch : Stretch) (own mid end : StripeSide) (caller caller_mid caller_new : CallerView) → mid.stripe.site ≡ own.stripe.site
-      → visible_row mid.stripe command turn.moment ≡ visible_row own.stripe command turn.moment → StillTries config turn own mid caller caller_mid → Grows (stripe_sight mid) (stripe_sight end)
+      → ((P : Link → Type 0) → IsSomeAnd (dead_link (item_of mid.stripe command) turn.moment) P → IsSomeAnd (dead_link (item_of own.stripe command) turn.moment) P)
+      → visible_row mid.stripe command turn.moment ≡ visible_row own.stripe command turn.moment → Makes stretch own mid caller caller_mid → Grows (stripe_sight mid) (stripe_sight end)
       → Enters (IsOfCommand config mid.stripe command turn.moment stretch) turn.who.turn (stripe_sight end) caller_mid.made caller_new.made
       → Enters (IsOfCommand config own.stripe command turn.moment stretch) turn.who.turn (stripe_sight end) caller.made caller_new.made
-  entered_behind stretch own mid end caller caller_mid caller_new site row still sees enters =
+  entered_behind stretch own mid end caller caller_mid caller_new site dead row still sees enters =
       let Here = IsOfCommand config own.stripe command turn.moment stretch in
-      enters_both Here turn.who.turn caller.made caller_mid.made caller_new.made (makes_tried config command turn stretch own mid still).enters sees
+      enters_both Here turn.who.turn caller.made caller_mid.made caller_new.made still.enters sees
       (enters_more (IsOfCommand config mid.stripe command turn.moment stretch) Here turn.who.turn caller_mid.made caller_new.made
-      (command_as config own.stripe mid.stripe command turn.moment stretch site row) enters)
+      (command_as config own.stripe mid.stripe command turn.moment stretch site dead row) enters)
 
   -- and the search is for what is needed
   sought_behind : (stretch : Stretch) (own mid end : StripeSide) → visible_row mid.stripe command turn.moment ≡ visible_row own.stripe command turn.moment
       → Sought mid end stretch → Sought own end stretch
   sought_behind stretch own mid end row sought = subst (λ (r : Row). IsSearchFor config r.need turn.who turn.moment end.sight stretch) row sought
+
+  up_to_behind : (stretch : Stretch) (own mid end : StripeSide) → visible_row mid.stripe command turn.moment ≡ visible_row own.stripe command turn.moment
+      → SoughtUpTo mid end stretch → SoughtUpTo own end stretch
+  up_to_behind stretch own mid end row sought = subst (λ (r : Row). IsSearchUpTo config r.need turn.who turn.moment end.sight stretch) row sought
+
+  -- a stripe of the same history has the same item
+  same_dead : (s mid : Stripe) → KeepsSite s mid → mid.history ≡ s.history → (P : Link → Type 0)
+      → IsSomeAnd (dead_link (item_of mid command) turn.moment) P → IsSomeAnd (dead_link (item_of s command) turn.moment) P
+  same_dead s mid site same P it = subst (λ (c : Cache). IsSomeAnd (dead_link (c.items (key_of command)) turn.moment) P) (cache_same s mid site same) it
+
+  -- a living item isn't buried
+  no_dead : (mid : Stripe) (s : Stripe) → IsAlive (item_of mid command) turn.moment → (P : Link → Type 0)
+      → IsSomeAnd (dead_link (item_of mid command) turn.moment) P → IsSomeAnd (dead_link (item_of s command) turn.moment) P
+  no_dead mid s alive P it = absurd (subst (λ (o : Option Link). IsSomeAnd o P) (not_dead (item_of mid command) turn.moment alive) it)
 
   -- on a stripe of the same history
   module _ (s mid : Stripe) (site : KeepsSite s mid) (same : mid.history ≡ s.history) where
@@ -174,9 +203,10 @@ module _ (config : Config) (command : Command) (turn : Turn) where
     }
 
   -- of a caller that had noted nothing
-  module _ (own mid : StripeSide) (site : KeepsSite own.stripe mid.stripe) (caller caller_mid : CallerView) (still : StillTries config turn own mid caller caller_mid) where
-    pub ends_same : mid.stripe.history ≡ own.stripe.history → (end : StripeSide) (caller_new : CallerView) (r : Result Replied Fault) → EndsBy mid end caller_mid caller_new r → EndsBy own end caller caller_new r
-    ends_same same end caller_new (Ok reply) ends =
+  module _ (own mid : StripeSide) (site : KeepsSite own.stripe mid.stripe) (caller caller_mid : CallerView) where
+    pub ends_same : StillTries config turn own mid caller caller_mid → mid.stripe.history ≡ own.stripe.history → (end : StripeSide) (caller_new : CallerView) (r : Result Replied Fault)
+        → EndsBy mid end caller_mid caller_new r → EndsBy own end caller caller_new r
+    ends_same still same end caller_new (Ok reply) ends =
         let s = own.stripe in
         let last = mid.stripe in
         record {
@@ -187,12 +217,14 @@ module _ (config : Config) (command : Command) (turn : Turn) where
           number = ends.number ∙ still.number_is;
           sees = Grows-trans (stripe_sight own) (stripe_sight mid) (stripe_sight end) still.sees ends.sees;
           stretch = ends.stretch;
-          enters = entered_behind ends.stretch own mid end caller caller_mid caller_new site.site (row_same command turn.moment s last site same) still ends.sees ends.enters;
+          enters = entered_behind ends.stretch own mid end caller caller_mid caller_new site.site (same_dead s last site same) (row_same command turn.moment s last site same)
+              (makes_tried config command turn ends.stretch own mid still) ends.sees ends.enters;
           search = sought_behind ends.stretch own mid end (row_same command turn.moment s last site same) ends.search;
+          cut_search = tt;
           site = site_both s last end.stripe site ends.site;
           full = λ is. full_same config s last end.stripe end.sight command turn.moment site same (ends.full is);
         }
-    ends_same same end caller_new (Err fault) ends =
+    ends_same still same end caller_new (Err fault) ends =
         let s = own.stripe in
         let last = mid.stripe in
         record {
@@ -202,16 +234,19 @@ module _ (config : Config) (command : Command) (turn : Turn) where
           number = ends.number ∙ still.number_is;
           sees = Grows-trans (stripe_sight own) (stripe_sight mid) (stripe_sight end) still.sees ends.sees;
           stretch = ends.stretch;
-          enters = entered_behind ends.stretch own mid end caller caller_mid caller_new site.site (row_same command turn.moment s last site same) still ends.sees ends.enters;
+          enters = entered_behind ends.stretch own mid end caller caller_mid caller_new site.site (same_dead s last site same) (row_same command turn.moment s last site same)
+              (makes_tried config command turn ends.stretch own mid still) ends.sees ends.enters;
           search = tt;
+          cut_search = up_to_behind ends.stretch own mid end (row_same command turn.moment s last site same) ends.cut_search;
           site = site_both s last end.stripe site ends.site;
           full = λ is. full_same config s last end.stripe end.sight command turn.moment site same (ends.full is);
         }
 
     -- behind the burial of its key's dead item
-    pub ends_buried : mid.stripe.history ≡ own.stripe.history ++ burial turn.who (key_of command) turn.moment (dead_link ((cache_now own.stripe).items (key_of command)) turn.moment)
+    pub ends_buried : (link : Link) → dead_link (item_of own.stripe command) turn.moment ≡ Some link → StillBuries config link turn own mid caller caller_mid
+        → mid.stripe.history ≡ own.stripe.history ++ burial turn.who (key_of command) turn.moment (dead_link ((cache_now own.stripe).items (key_of command)) turn.moment)
         → (end : StripeSide) (caller_new : CallerView) (r : Result Replied Fault) → EndsBy mid end caller_mid caller_new r → EndsBy own end caller caller_new r
-    ends_buried buried end caller_new (Ok reply) ends =
+    ends_buried link dead still buried end caller_new (Ok reply) ends =
         let s = own.stripe in
         let last = mid.stripe in
         record {
@@ -222,12 +257,14 @@ module _ (config : Config) (command : Command) (turn : Turn) where
           number = ends.number ∙ still.number_is;
           sees = Grows-trans (stripe_sight own) (stripe_sight mid) (stripe_sight end) still.sees ends.sees;
           stretch = ends.stretch;
-          enters = entered_behind ends.stretch own mid end caller caller_mid caller_new site.site (buried_row s last turn.who command turn.moment site buried) still ends.sees ends.enters;
+          enters = entered_behind ends.stretch own mid end caller caller_mid caller_new site.site (no_dead last s (buried_alive s last turn.who command turn.moment site buried))
+              (buried_row s last turn.who command turn.moment site buried) (makes_buried config command turn ends.stretch own mid link dead still) ends.sees ends.enters;
           search = sought_behind ends.stretch own mid end (buried_row s last turn.who command turn.moment site buried) ends.search;
+          cut_search = tt;
           site = site_both s last end.stripe site ends.site;
           full = λ is. full_buried config turn.who s last end.stripe end.sight command turn.moment site buried (ends.full is);
         }
-    ends_buried buried end caller_new (Err fault) ends =
+    ends_buried link dead still buried end caller_new (Err fault) ends =
         let s = own.stripe in
         let last = mid.stripe in
         record {
@@ -237,8 +274,10 @@ module _ (config : Config) (command : Command) (turn : Turn) where
           number = ends.number ∙ still.number_is;
           sees = Grows-trans (stripe_sight own) (stripe_sight mid) (stripe_sight end) still.sees ends.sees;
           stretch = ends.stretch;
-          enters = entered_behind ends.stretch own mid end caller caller_mid caller_new site.site (buried_row s last turn.who command turn.moment site buried) still ends.sees ends.enters;
+          enters = entered_behind ends.stretch own mid end caller caller_mid caller_new site.site (no_dead last s (buried_alive s last turn.who command turn.moment site buried))
+              (buried_row s last turn.who command turn.moment site buried) (makes_buried config command turn ends.stretch own mid link dead still) ends.sees ends.enters;
           search = tt;
+          cut_search = up_to_behind ends.stretch own mid end (buried_row s last turn.who command turn.moment site buried) ends.cut_search;
           site = site_both s last end.stripe site ends.site;
           full = λ is. full_buried config turn.who s last end.stripe end.sight command turn.moment site buried (ends.full is);
         }

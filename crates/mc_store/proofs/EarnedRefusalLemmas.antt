@@ -13,7 +13,7 @@ use Rattle.mc_rule.specs.{Lists.IsFull, Lists.from_tail, Lists.list_of, Lists.li
 use Rattle.mc_evidence.specs.{Refusals.HasTried, Refusals.NoneNear, Refusals.WasTried, Seen.class_events, Seen.classes_seen}
 use Rattle.mc_evidence.proofs.{EvidenceGrowthLemmas.tried_later, SeenLemmas.class_events-map, SeenLemmas.classes_grow}
 use Rattle.mc_pull.specs.{Tried.IsNoneNear, Question.IsClassOf, Rounds.ForcesHot, Rounds.IsRoom, Rounds.IsRoomRound, Rounds.Repeats, Rounds.Rounds, Rounds.Walks, Rounds.rounds}
-use Rattle.mc_pull.specs.Pulled.{did_something}
+use Rattle.mc_pull.specs.{Broken.BreaksRoom, Pulled.did_something}
 use Rattle.mc_pull.specs.declared.{judge.Mode.Mode, judge.Mode.TheVariants.Evict, judge.Mode.TheVariants.Force, looking.Answer.Answer, pulled.Pulled.Pulled}
 use Rattle.mc_pull.proofs.SearchTriedLemmas.{walk_tried}
 use Rattle.mc_board.specs.Histories.{Grows, list_at}
@@ -22,7 +22,7 @@ use Rattle.mc_board.proofs.PrefixLemmas.{prefix_trans}
 use Rattle.mc_segment.specs.{ClassCalls.Makes, ClassCalls.Stays, ClassCalls.refused_event, ClassState.ClassView, ClassState.chunks_for, ClassState.class_view, ClassState.opened}
 use Rattle.mc_store.specs.Earned.{HasGoneThrough, HasSearched, IsInVain, IsEarned, IsEarnedAt, IsEarnedIn, IsLastResort}
 use Rattle.mc_store.specs.{Accounts.Stretch, Accounts.stretch_of, Locked.class_lock, Sides.class_told}
-use Rattle.mc_store.specs.Searches.{HasSeenOf, IsSearchFor, IsSearchedIf, IsSearchedOnce}
+use Rattle.mc_store.specs.Searches.{HasSeenOf, IsSearchBroken, IsSearchFor, IsSearchUpTo, IsSearchedIf, IsSearchedOnce}
 
 -- who has seen all that a class told has seen its history
 pub class_seen : (config : Config) (sight : Sight) (lock : ℕ) (class : ClassNo) (history : List ClassEvent) → lock ≡ class_lock config class → list_at sight.seen lock ≡ class_told history
@@ -66,6 +66,14 @@ searched_once config v who moment answers after found made room = record {
   answers = answers;
   found = found;
   room = subst (λ (r : Rounds). IsRoom r v.history answers after found) (rounds_same config v v.number who moment made refl) room;
+}
+
+-- and rounds that a fault ended are a search that it broke off
+pub searched_broken : (config : Config) (v : ClassView) (who : Who) (moment : ℕ) (answers : List Answer) (after : List ClassEvent) → IsClassOf config v
+    → BreaksRoom (rounds v who moment config) v.history answers after → IsSearchBroken config v.number who moment v.history after
+searched_broken config v who moment answers after made room = record {
+  answers = answers;
+  room = subst (λ (r : Rounds). BreaksRoom r v.history answers after) (rounds_same config v v.number who moment made refl) room;
 }
 
 -- a walk only adds to a history
@@ -126,6 +134,25 @@ search_grows config need who moment a b stretch grows (inr search) =
         from_is = one.from_is;
         until_is = one.until_is;
         seen = seen_of_grows config search.0 (one.searched ++ one.refusal) a b grows one.seen;
+      },
+    )
+
+-- so is one that a fault may have broken off
+pub up_to_grows : (config : Config) (need : Need) (who : Who) (moment : ℕ) (a b : Sight) (stretch : Stretch) → Grows a b → IsSearchUpTo config need who moment a stretch
+    → IsSearchUpTo config need who moment b stretch
+up_to_grows config need who moment a b stretch grows (inl whole) = inl (search_grows config need who moment a b stretch grows whole)
+up_to_grows config need who moment a b stretch grows (inr cut) =
+    let one = cut.2 in
+    inr (
+      cut.0,
+      cut.1,
+      record {
+        before = one.before;
+        searched = one.searched;
+        broken = one.broken;
+        from_is = one.from_is;
+        until_is = one.until_is;
+        seen = seen_of_grows config cut.0 one.searched a b grows one.seen;
       },
     )
 

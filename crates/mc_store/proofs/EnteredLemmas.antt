@@ -1,11 +1,12 @@
 -- What a command enters in its caller's account, on its stripe, on classes, and by a search for a chunk.
-use Rattle.std.proofs.Common.{◌≡◌, ◌<◌, ◌++◌, ◌∷◌, [], ℕ, zero, suc, List, Option, None, Some, Result, Ok, Err, slice_get, inl, inr, length, refl, ap, ◌∙◌, arith, subst, sym}
+use Rattle.std.proofs.Common.{◌≡◌, ◌==◌, ◌<◌, ◌++◌, true, ◌∷◌, [], ℕ, zero, suc, List, Option, None, Some, Result, Ok, Err, slice_get, inl, inr, length, refl, ap, ◌∙◌, arith, subst, sym}
 use Rattle.std.specs.Prelude.{◌≤◌, IfOk, OnOk, OnErr, IsSomeAnd}
 use Rattle.std.proofs.lemmas.List.{append-nil}
+use Rattle.std.proofs.lemmas.Bool.Decides.{nat_tests}
 use mathlib.Core.List.{IsPrefix}
 use Rattle.mc_item.specs.Answer.{Row}
 use Rattle.mc_item.specs.declared.{answer.Need.Need, answer.Site.Site, call_event.CallEvent.CallEvent, class_event.ClassEvent.ClassEvent, command.Command.Command, config.Config.Config}
-use Rattle.mc_item.specs.declared.{event.Event.Event, event.Event.TheVariants.Class, event.Event.TheVariants.Stripe, fault.Fault.Fault, item.ClassNo.ClassNo, item.Who.Who}
+use Rattle.mc_item.specs.declared.{event.Event.Event, event.Event.TheVariants.Class, event.Event.TheVariants.Stripe, fault.Fault.Fault, item.ClassNo.ClassNo, item.Link.Link, item.Who.Who}
 use Rattle.mc_item.specs.declared.stripe_event.StripeEvent.{StripeEvent}
 use Rattle.mc_item.specs.Cache.{Cache}
 use Rattle.mc_item.specs.declared.answer.Need.TheVariants as needs
@@ -14,7 +15,7 @@ use Rattle.mc_board.specs.declared.rule.Sight.{Sight}
 use Rattle.mc_board.proofs.{AccountLemmas.get_longer, PrefixLemmas.prefix_self, SeenLemmas.list_at_other, SeenLemmas.list_at_same}
 use Rattle.mc_evidence.specs.Setting.{IsClass}
 use Rattle.mc_segment.specs.ClassState.{ClassView, with_room}
-use Rattle.mc_stripe.specs.{Plan.visible_row, StripeState.cache_now}
+use Rattle.mc_stripe.specs.{Plan.dead_link, Plan.visible_row, StripeState.cache_now, Trying.item_of}
 use Rattle.mc_stripe.specs.StripeState as states
 use Rattle.mc_stripe.specs.declared.trying.Turn.{Turn}
 use Rattle.mc_pull.specs.declared.{judge.Done.Done, judge.Judge.TheVariants.Dead}
@@ -23,9 +24,9 @@ use Rattle.mc_pull.specs.{Judgement.done_of, Lent.EachPair, Perform.Call, Perfor
 use Rattle.mc_pull.specs.Performed as performed
 use Rattle.mc_pull.specs.Settled.{IsSettled, done_class_events}
 use Rattle.mc_pull.proofs.{ChunkEventLemmas.none_done, EventsLemmas.events_so}
-use Rattle.mc_store.specs.Accounts.{FollowsItem, IsClassLock, IsFollowing, IsOfCommand, IsOfSearch, IsOfStretch, IsOfTry, StillCalls, Stretch}
+use Rattle.mc_store.specs.Accounts.{FollowsItem, IsClassLock, IsInClass, IsOfBurial, IsOfCommand, IsOfSearch, IsOfStretch, IsOfTry, RemovesDead, StillCalls, Stretch}
 use Rattle.mc_store.specs.{Callers.answered_at, Locked.class_lock, Locked.setting_of, Passes.CallerView, Passes.HasAsked, Sides.ClassSide, Sides.StripeSide}
-use Rattle.mc_store.specs.{Sides.class_told, Sides.stripe_sight, Sides.stripe_told, Trying.StillSearches, Trying.StillTries, Trying.noted_on}
+use Rattle.mc_store.specs.{Sides.class_told, Sides.stripe_sight, Sides.stripe_told, Trying.StillBuries, Trying.StillSearches, Trying.StillTries, Trying.noted_on}
 use Rattle.mc_store.proofs.AccountLemmas.{grows_itself, seen_all, seen_each, still_asked, still_both, still_more, still_new, still_none, still_same, whole_grows}
 use Rattle.mc_store.proofs.SyncedStepLemmas.{map_length}
 
@@ -40,58 +41,61 @@ pub lock_apart : (config : Config) (lock other number : ℕ) → IsClassLock con
 lock_apart config lock other number is at below same =
     let first = is.0 in omega (arith, first, at, below, same)
 
--- ---- events that follow their items
+-- ---- events of one kind
 
--- each of these events of a class follows its item
-abbrev pub AreFollowing : List ClassEvent → Type 0
-AreFollowing [] = Unit {0}
-AreFollowing (e ∷ es) = FollowsItem e × AreFollowing es
+-- `P` holds of each of these events of a class
+abbrev pub AreAll : (ClassEvent → Type 0) → List ClassEvent → Type 0
+AreAll P [] = Unit {0}
+AreAll P (e ∷ es) = P e × AreAll P es
 
 -- a class's history gained only such
-pub record GainsFollowing (history history_new : List ClassEvent) : Type 0 where
+pub record GainsAll (P : ClassEvent → Type 0) (history history_new : List ClassEvent) : Type 0 where
   pub gained : List ClassEvent
   pub history_is : history_new ≡ history ++ gained
-  pub each : AreFollowing gained
+  pub each : AreAll P gained
 
--- none is asked for whether an item is dead but its reclaim
-following_dead : (c : ClassView) (cache : Cache) (who : Who) (number moment at : ℕ) (d : Done) → d ≡ done_of c cache (question who number Dead moment)
-    → AreFollowing (done_class_events c (question who number Dead moment) at d)
-following_dead c cache who number moment at done.Reclaimed is = (tt, tt)
-following_dead c cache who number moment at done.ToWarm is = tt
-following_dead c cache who number moment at done.WithinWarm is = tt
-following_dead c cache who number moment at done.ToCold is = tt
-following_dead c cache who number moment at done.Evicted is = absurd ((none_done c (question who number Dead moment) cache at done.Evicted refl is).0 tt)
-following_dead c cache who number moment at done.Stayed is = tt
-following_dead c cache who number moment at (done.Alive expiry) is = tt
-following_dead c cache who number moment at done.Stranger is = tt
+number_itself : (n : ℕ) → (n == n) ≡ true
+number_itself n = grind (arith, nat_tests)
+
+-- if it is asked whether an item is dead, at most its entry is reclaimed
+removes_dead : (c : ClassView) (cache : Cache) (who : Who) (number moment at : ℕ) (d : Done) → d ≡ done_of c cache (question who number Dead moment)
+    → AreAll (RemovesDead number) (done_class_events c (question who number Dead moment) at d)
+removes_dead c cache who number moment at done.Reclaimed is = ((tt, number_itself number), tt)
+removes_dead c cache who number moment at done.ToWarm is = tt
+removes_dead c cache who number moment at done.WithinWarm is = tt
+removes_dead c cache who number moment at done.ToCold is = tt
+removes_dead c cache who number moment at done.Evicted is = absurd ((none_done c (question who number Dead moment) cache at done.Evicted refl is).0 tt)
+removes_dead c cache who number moment at done.Stayed is = tt
+removes_dead c cache who number moment at (done.Alive expiry) is = tt
+removes_dead c cache who number moment at done.Stranger is = tt
 
 -- a class after that judgement, however it ended
-pub following_settled : (c c_new : ClassView) (s s_new : states.Stripe) (who : Who) (number moment : ℕ) → let q = question who number Dead moment in
+pub removes_settled : (c c_new : ClassView) (s s_new : states.Stripe) (who : Who) (number moment : ℕ) → let q = question who number Dead moment in
     (r : Result Done Fault) → IfOk r (λ made. made ≡ done_of c (cache_now s) q) → IfOk r (λ made. IsSettled c c_new s s_new q made)
-    → OnErr r ((c_new ≡ with_room c c_new.room) × (s_new.history ≡ s.history)) → GainsFollowing c.history c_new.history
-following_settled c c_new s s_new who number moment (Ok made) is settled err =
+    → OnErr r ((c_new ≡ with_room c c_new.room) × (s_new.history ≡ s.history)) → GainsAll (RemovesDead number) c.history c_new.history
+removes_settled c c_new s s_new who number moment (Ok made) is settled err =
     let q = question who number Dead moment in
     record {
       gained = done_class_events c q (length s.history) made;
       history_is = ap (λ (v : ClassView). v.history) settled.class;
-      each = following_dead c (cache_now s) who number moment (length s.history) made is;
+      each = removes_dead c (cache_now s) who number moment (length s.history) made is;
     }
-following_settled c c_new s s_new who number moment (Err fault) is settled err =
+removes_settled c c_new s s_new who number moment (Err fault) is settled err =
     record { gained = []; history_is = ap (λ (v : ClassView). v.history) err.0 ∙ sym (append-nil c.history); each = tt }
 
 module _ (s s_new : states.Stripe) (c : Call) where
-  -- a command's events in a class
-  following_part : (v : ClassView) → AreFollowing (performed.events_in s c v)
-  following_part v = events_so AreFollowing s c v tt (λ key cost expiry. (tt, tt)) (λ key cost expiry number. (tt, (tt, tt))) (λ number. (tt, tt))
+  -- a command's events in a class follow its item
+  following_part : (v : ClassView) → AreAll FollowsItem (performed.events_in s c v)
+  following_part v = events_so (AreAll FollowsItem) s c v tt (λ key cost expiry. (tt, tt)) (λ key cost expiry number. (tt, (tt, tt))) (λ number. (tt, tt))
 
-  part_following : (v w : ClassView) → GainsPart s c v w → GainsFollowing v.history w.history
+  part_following : (v w : ClassView) → GainsPart s c v w → GainsAll FollowsItem v.history w.history
   part_following v w gains = record { gained = performed.events_in s c v; history_is = ap (λ (x : ClassView). x.history) gains; each = following_part v }
 
-  stays_following : (v w : ClassView) → performed.ClassStays v w → GainsFollowing v.history w.history
+  stays_following : (v w : ClassView) → performed.ClassStays v w → GainsAll FollowsItem v.history w.history
   stays_following v w stays = record { gained = []; history_is = ap (λ (x : ClassView). x.history) stays ∙ sym (append-nil v.history); each = tt }
 
-  each_following : (R : ClassView → ClassView → Type 0) → ((v w : ClassView) → R v w → GainsFollowing v.history w.history) → (xs ys : List ClassView) → EachPair R xs ys
-      → EachPair (λ v w. GainsFollowing v.history w.history) xs ys
+  each_following : (R : ClassView → ClassView → Type 0) → ((v w : ClassView) → R v w → GainsAll FollowsItem v.history w.history) → (xs ys : List ClassView) → EachPair R xs ys
+      → EachPair (λ v w. GainsAll FollowsItem v.history w.history) xs ys
   each_following R more [] [] each = tt
   each_following R more [] (y ∷ ys) each = absurd each
   each_following R more (x ∷ xs) [] each = absurd each
@@ -99,7 +103,7 @@ module _ (s s_new : states.Stripe) (c : Call) where
 
   -- classes that were lent to a command, whether it was made or not
   pub following_performed : {T : Type 0} (vs ws : List ClassView) (r : Result T Fault) → OnOk r (IsPerformed s s_new c vs ws) → OnErr r (IsUntouched s s_new vs ws)
-      → EachPair (λ v w. GainsFollowing v.history w.history) vs ws
+      → EachPair (λ v w. GainsAll FollowsItem v.history w.history) vs ws
   following_performed vs ws (Ok x) made err = each_following (λ v w. GainsPart s c v w) (λ v w g. part_following v w g) vs ws made.classes
   following_performed vs ws (Err f) made err = each_following (λ v w. performed.ClassStays v w) (λ v w g. stays_following v w g) vs ws err.classes
 
@@ -110,23 +114,24 @@ none_there event at = cc at
 one_there : (a b : Event) → Some a ≡ Some b → a ≡ b
 one_there a b at = cc at
 
-following_at : (es : List ClassEvent) → AreFollowing es → (place : ℕ) (event : Event) → slice_get (class_told es) place ≡ Some event → IsFollowing event
-following_at [] are place event at = absurd (none_there event at)
-following_at (e ∷ es) are zero event at = subst IsFollowing (one_there (Class e) event at) are.0
-following_at (e ∷ es) are (suc place) event at = following_at es are.1 place event at
+module _ (P : ClassEvent → Type 0) where
+  all_at : (es : List ClassEvent) → AreAll P es → (place : ℕ) (event : Event) → slice_get (class_told es) place ≡ Some event → IsInClass P event
+  all_at [] are place event at = absurd (none_there event at)
+  all_at (e ∷ es) are zero event at = subst (IsInClass P) (one_there (Class e) event at) are.0
+  all_at (e ∷ es) are (suc place) event at = all_at es are.1 place event at
 
--- behind what its history was
-following_behind : (history es : List ClassEvent) → AreFollowing es → (place : ℕ) (event : Event) → length history ≤ place → slice_get (class_told (history ++ es)) place ≡ Some event → IsFollowing event
-following_behind [] es are place event low at = following_at es are place event at
-following_behind (e ∷ history) es are zero event low at = absurd (omega (arith, low))
-following_behind (e ∷ history) es are (suc place) event low at = following_behind history es are place event (omega (arith, low)) at
+  -- behind what its history was
+  all_behind : (history es : List ClassEvent) → AreAll P es → (place : ℕ) (event : Event) → length history ≤ place → slice_get (class_told (history ++ es)) place ≡ Some event → IsInClass P event
+  all_behind [] es are place event low at = all_at es are place event at
+  all_behind (e ∷ history) es are zero event low at = absurd (omega (arith, low))
+  all_behind (e ∷ history) es are (suc place) event low at = all_behind history es are place event (omega (arith, low)) at
 
--- behind what its owner told
-pub following_from : (history history_new : List ClassEvent) → GainsFollowing history history_new → (told : List Event) → told ≡ class_told history
-    → (place : ℕ) (event : Event) → length told ≤ place → slice_get (class_told history_new) place ≡ Some event → IsFollowing event
-following_from history history_new gains told is place event low at =
-    let long : length told ≡ length history = ap (λ (l : List Event). length l) is ∙ map_length Class history in
-    following_behind history gains.gained gains.each place event (omega (arith, long, low)) (subst (λ (h : List ClassEvent). slice_get (class_told h) place ≡ Some event) gains.history_is at)
+  -- behind what its owner told
+  pub all_from : (history history_new : List ClassEvent) → GainsAll P history history_new → (told : List Event) → told ≡ class_told history
+      → (place : ℕ) (event : Event) → length told ≤ place → slice_get (class_told history_new) place ≡ Some event → IsInClass P event
+  all_from history history_new gains told is place event low at =
+      let long : length told ≡ length history = ap (λ (l : List Event). length l) is ∙ map_length Class history in
+      all_behind history gains.gained gains.each place event (omega (arith, long, low)) (subst (λ (h : List ClassEvent). slice_get (class_told h) place ≡ Some event) gains.history_is at)
 
 -- ---- what was seen
 
@@ -186,7 +191,7 @@ module _ (config : Config) (number turn : ℕ) where
   -- those of a class, each of which follows its item
   pub class_entered : {x y : Sight} (a b : CallerView) (lock from : ℕ) (history : List ClassEvent) → b ≡ record a { made = with_new a.made turn lock from (length history) } → IsClassLock config lock → Grows x y
       → IsPrefix (class_told history) (list_at y.seen lock)
-      → ((place : ℕ) (event : Event) → from ≤ place → slice_get (class_told history) place ≡ Some event → IsFollowing event) → StillCalls (IsOfTry config number) turn x y a b
+      → ((place : ℕ) (event : Event) → from ≤ place → slice_get (class_told history) place ≡ Some event → IsInClass FollowsItem event) → StillCalls (IsOfTry config number) turn x y a b
   class_entered {x = x} {y = y} a b lock from history is of grows told follows =
       still_new (IsOfTry config number) a b turn lock from (length history) is grows
       (seen_within (IsOfTry config number) y lock from (length history) (class_told history) told (sym (map_length Class history)) (λ place event low at. inr (of, follows place event low at)))
@@ -225,28 +230,45 @@ module _ (config : Config) (turn : Turn) where
       → StillTries config turn own end a b
   heard_tried own heard end is more same still = tries_both own heard end (ap (λ (x : StripeSide). x.stripe.site) is) (tries_heard own heard is more same) still
 
-  -- a stripe and a class stepped, and the stripe was told the class's history
-  pub pair_tried : (own end : StripeSide) {a k b : CallerView} (lock from : ℕ) (history : List StripeEvent) (lock_of from_of : ℕ) (history_of : List ClassEvent) (sight : Sight)
+  -- the stripe has only heard more, and then an item was buried
+  pub heard_buried : (own heard end : StripeSide) (link : Link) {a k b : CallerView} → heard ≡ record own { sight = heard.sight } → Grows own.sight heard.sight → k ≡ a
+      → StillBuries config link turn heard end k b → StillBuries config link turn own end a b
+  heard_buried own heard end link {a = a} {k = k} {b = b} is more same still =
+      let Suits = IsOfBurial config own.stripe.site.stripe link in
+      still_both Suits turn.who.turn a k b (still_same Suits turn.who.turn a k (heard_more own heard is more) same)
+      (subst (λ (t : Site). StillCalls (IsOfBurial config t.stripe link) turn.who.turn (stripe_sight heard) (stripe_sight end) k b) (ap (λ (x : StripeSide). x.stripe.site) is) still)
+
+  -- a stripe and a class stepped for a burial, and the stripe was told the class's history
+  pub pair_buried : (own end : StripeSide) (link : Link) {a k b : CallerView} (lock from : ℕ) (history : List StripeEvent) (lock_of from_of : ℕ) (history_of : List ClassEvent) (sight : Sight)
       → k ≡ record a { made = with_new a.made turn.who.turn lock from (length history) } → b ≡ record k { made = with_new k.made turn.who.turn lock_of from_of (length history_of) }
-      → lock ≡ own.stripe.site.stripe → own.stripe.site.stripe < config.stripes → IsClassLock config lock_of
+      → lock ≡ own.stripe.site.stripe → own.stripe.site.stripe < config.stripes → IsClassLock config lock_of → lock_of ≡ class_lock config link.class
       → stripe_sight end ≡ with_seen (with_seen sight lock_of (class_told history_of)) lock (stripe_told history) → Grows (stripe_sight own) (stripe_sight end)
-      → ((place : ℕ) (event : Event) → from_of ≤ place → slice_get (class_told history_of) place ≡ Some event → IsFollowing event) → StillTries config turn own end a b
-  pair_tried own end {a = a} {k = k} {b = b} lock from history lock_of from_of history_of sight first more at below of is grows follows =
+      → ((place : ℕ) (event : Event) → from_of ≤ place → slice_get (class_told history_of) place ≡ Some event → IsInClass (RemovesDead link.number) event) → StillBuries config link turn own end a b
+  pair_buried own end link {a = a} {k = k} {b = b} lock from history lock_of from_of history_of sight first more at below of of_link is grows removes =
       let number = own.stripe.site.stripe in
+      let Suits = IsOfBurial config number link in
       let told = class_told history_of in
+      let after = stripe_sight end in
       let has = subst (λ (t : Sight). IsPrefix told (list_at t.seen lock_of)) (sym is)
       (has_beside (with_seen sight lock_of told) lock lock_of (stripe_told history) told (lock_apart config lock_of lock number of at below) (told_has sight lock_of told)) in
-      still_both (IsOfTry config number) turn.who.turn a k b
-      (stripe_entered config number turn.who.turn a k lock from history first at grows
-      (ap (λ (t : Sight). list_at t.seen lock) is ∙ list_at_same (with_seen sight lock_of told).seen lock (stripe_told history)))
-      (class_entered config number turn.who.turn k b lock_of from_of history_of more of (grows_itself (stripe_sight end)) has follows)
+      let long : length (list_at after.seen lock) ≡ length history =
+      ap (λ (l : List Event). length l) (ap (λ (t : Sight). list_at t.seen lock) is ∙ list_at_same (with_seen sight lock_of told).seen lock (stripe_told history)) ∙ map_length Stripe history in
+      still_both Suits turn.who.turn a k b
+      (still_new Suits a k turn.who.turn lock from (length history) first grows (seen_all Suits after lock from (length history) (omega (arith, long)) (λ place event low high. inl at)))
+      (still_new Suits k b turn.who.turn lock_of from_of (length history_of) more (grows_itself after)
+      (seen_within Suits after lock_of from_of (length history_of) told has (sym (map_length Class history_of)) (λ place event low at. inr (of_link, removes place event low at))))
 
--- what a command may make on a stripe it may make on one on which it does the same
+-- what a command may make on a stripe it may make on one on which it does the same, if its dead item, if there is one, is the same
 pub command_as : (config : Config) (s mid : states.Stripe) (command : Command) (moment : ℕ) (stretch : Stretch) → mid.site ≡ s.site
+    → ((P : Link → Type 0) → IsSomeAnd (dead_link (item_of mid command) moment) P → IsSomeAnd (dead_link (item_of s command) moment) P)
     → visible_row mid command moment ≡ visible_row s command moment
     → (lock place : ℕ) (event : Event) → IsOfCommand config mid command moment stretch lock place event → IsOfCommand config s command moment stretch lock place event
-command_as config s mid command moment stretch site row lock place event (inl it) = inl (subst (λ (t : Site). IsOfTry config t.stripe lock place event) site it)
-command_as config s mid command moment stretch site row lock place event (inr it) = inr (subst (λ (r : Row). IsOfSearch config r.need stretch lock place event) row it)
+command_as config s mid command moment stretch site dead row lock place event (inl it) = inl (subst (λ (t : Site). IsOfTry config t.stripe lock place event) site it)
+command_as config s mid command moment stretch site dead row lock place event (inr (inl it)) =
+    inr (inl (dead (λ link. IsOfBurial config s.site.stripe link lock place event)
+    (subst (λ (t : Site). IsSomeAnd (dead_link (item_of mid command) moment) (λ link. IsOfBurial config t.stripe link lock place event)) site it)))
+command_as config s mid command moment stretch site dead row lock place event (inr (inr it)) =
+    inr (inr (subst (λ (r : Row). IsOfSearch config r.need stretch lock place event) row it))
 
 -- no place of a class's history
 abbrev pub no_stretch : Stretch
@@ -271,7 +293,14 @@ module _ (config : Config) (command : Command) (turn : Turn) (stretch : Stretch)
       → StillSearches config class stretch turn own end a b → StillMakes own end a b
   makes_searched own end {a = a} {b = b} class fresh still =
       still_more (IsOfStretch config class stretch) (IsOfCommand config own.stripe command turn.moment stretch) turn.who.turn a b
-      (λ lock place event it. inr (subst (λ (n : Need). IsOfSearch config n stretch lock place event) (sym fresh) it)) still
+      (λ lock place event it. inr (inr (subst (λ (n : Need). IsOfSearch config n stretch lock place event) (sym fresh) it))) still
+
+  -- what it made when it buried its key's dead item
+  pub makes_buried : (own end : StripeSide) {a b : CallerView} (link : Link) → dead_link (item_of own.stripe command) turn.moment ≡ Some link
+      → StillBuries config link turn own end a b → StillMakes own end a b
+  makes_buried own end {a = a} {b = b} link dead still =
+      still_more (IsOfBurial config own.stripe.site.stripe link) (IsOfCommand config own.stripe command turn.moment stretch) turn.who.turn a b
+      (λ lock place event it. inr (inl (subst (λ (o : Option Link). IsSomeAnd o (λ l. IsOfBurial config own.stripe.site.stripe l lock place event)) (sym dead) it))) still
 
   -- each of both behind others
   pub makes_then_tried : (own mid end : StripeSide) {a b c : CallerView} → mid.stripe.site ≡ own.stripe.site → StillMakes own mid a b → StillTries config turn mid end b c → StillMakes own end a c
@@ -285,4 +314,4 @@ module _ (config : Config) (command : Command) (turn : Turn) (stretch : Stretch)
   makes_then_searched own mid end {a = a} {b = b} {c = c} class fresh first more =
       still_both (IsOfCommand config own.stripe command turn.moment stretch) turn.who.turn a b c first
       (still_more (IsOfStretch config class stretch) (IsOfCommand config own.stripe command turn.moment stretch) turn.who.turn b c
-      (λ lock place event it. inr (subst (λ (n : Need). IsOfSearch config n stretch lock place event) (sym fresh) it)) more)
+      (λ lock place event it. inr (inr (subst (λ (n : Need). IsOfSearch config n stretch lock place event) (sym fresh) it))) more)

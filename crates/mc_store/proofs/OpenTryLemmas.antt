@@ -20,13 +20,13 @@ use Rattle.mc_pull.specs.Growth as classes
 use Rattle.mc_pull.specs.Question as made
 use Rattle.mc_store.specs.{Callers.AreCalled, Callers.answered_at, Callers.asked_for, Callers.calls_told, Passes.CallerView, Passes.HasAsked, Passes.HasCalled}
 use Rattle.mc_store.specs.Locked.{HasBegunAs, IsHeldClass, IsLockedClass, IsLockedStripe, caller_place, locks_for}
-use Rattle.mc_store.specs.{Accounts.IsClassLock, Accounts.IsOfTry, Performing.IsRefusedIn, Serving.class_side, Sides.ClassSide, Sides.StripeSide, Sides.class_told, Sides.stripe_sight}
+use Rattle.mc_store.specs.{Accounts.FollowsItem, Accounts.IsClassLock, Accounts.IsOfTry, Performing.IsRefusedIn, Serving.class_side, Sides.ClassSide, Sides.StripeSide, Sides.class_told, Sides.stripe_sight}
 use Rattle.mc_store.specs.{Sides.stripe_told, Trying.IsTriedUnder, Trying.Stay, Trying.StillTries, Trying.is_made, Trying.noted_on}
 use Rattle.mc_board.specs.Accounts.{with_new}
 use Rattle.mc_item.specs.declared.class_event.ClassEvent.{ClassEvent}
 use Rattle.mc_board.proofs.{PrefixLemmas.prefix_trans, SeenLemmas.list_at_same}
 use Rattle.mc_store.proofs.AccountLemmas.{grows_itself, still_both, still_same, whole_grows}
-use Rattle.mc_store.proofs.EnteredLemmas.{GainsFollowing, class_entered, following_from, following_performed, has_beside, is_class_lock, lock_apart, noted_still, stripe_entered, told_has, tries_asked}
+use Rattle.mc_store.proofs.EnteredLemmas.{GainsAll, all_from, class_entered, following_performed, has_beside, is_class_lock, lock_apart, noted_still, stripe_entered, told_has, tries_asked}
 use Rattle.mc_store.proofs.{SeenStripeLemmas.on_err_both, SeenStripeLemmas.on_err_more, CallerLemmas.called_performed, LentClassLemmas.lent_grow, LentClassLemmas.own_behind}
 use Rattle.mc_store.proofs.OwnCallLemmas.{class_own_by, stripe_performed_by}
 use Rattle.mc_store.proofs.OwnEventLemmas.{GainsFit, gains_performed}
@@ -101,7 +101,7 @@ pub record IsLent (table : TableId) (config : Config) (command : Command) (turn 
   pub kept : IsLockedClass table config (class_side owner seen v)
   pub grows : classes.GainsEvents v w
   pub gains : GainsFit turn.who turn.moment command v.history w.history
-  pub follows : GainsFollowing v.history w.history
+  pub follows : GainsAll FollowsItem v.history w.history
   pub agrees : AgreeNow w s_new
   pub backs : BacksStill s.site v w
   pub suits : SuitsStill s.site v w
@@ -195,7 +195,7 @@ module _ {table : TableId} {config : Config} {command : Command} {turn : Turn} {
   refused_in : IsRefusedIn call_in.room vs
   refused_in = refused_at config s s_new command turn given vs ws step.may.refused step.may.offered t step.tried
 
-  follow_in : EachPair (λ v w. GainsFollowing v.history w.history) vs ws
+  follow_in : EachPair (λ v w. GainsAll FollowsItem v.history w.history) vs ws
   follow_in = following_performed s s_new call_in vs ws (result_of t) made_in none_in
 
   gain_in : EachPair (λ v w. GainsFit turn.who turn.moment command v.history w.history) vs ws
@@ -240,7 +240,7 @@ module _ {table : TableId} {config : Config} {command : Command} {turn : Turn} {
       still_both (IsOfTry config number) turn.who.turn caller mid last still
       (class_entered config number turn.who.turn mid last owner_of.lock (length owner_of.history) w.history is of (grows_itself (stripe_sight (left_side owner s_new sight)))
       (has_beside sight owner.lock owner_of.lock (stripe_told s_new.history) (class_told w.history) (lock_apart config owner_of.lock owner.lock number of step.kept.lock_is step.kept.of) has)
-      (following_from v.history w.history lent.follows owner_of.history told))
+      (all_from FollowsItem v.history w.history lent.follows owner_of.history told))
 
   known_so : {side own : StripeSide} → IsOpenStripe table config owner seen s side own → {noting sight : Sight} {caller caller_new : CallerView} {place : ℕ} {done : Bool} → HasAsked caller turn.who command turn.moment
       → place ≡ length side.stripe.history → done ≡ is_made t → Grows seen.sight noting → (done ≡ true → caller.number < config.callers)

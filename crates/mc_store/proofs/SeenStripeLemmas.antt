@@ -13,12 +13,12 @@ use Rattle.mc_hits.specs.Views.{HandsView, hit_of}
 use Rattle.mc_evidence.proofs.{LockLemmas.stripe_sees_more, SeenLemmas.classes_grow}
 use Rattle.mc_stripe.specs.{Plan.visible_row, StripeCalls.KeepsSite}
 use Rattle.mc_stripe.specs.declared.trying.Turn.{Turn}
-use Rattle.mc_store.specs.{Accounts.Enters, Accounts.IsOfCommand, Held.Ends, Locked.IsLockedStripe, Locked.setting_of, Searches.IsSearchFor, Sides.StripeSide, Sides.stripe_sight, Sides.stripe_told}
+use Rattle.mc_store.specs.{Accounts.Enters, Accounts.IsOfCommand, Held.Ends, Locked.IsLockedStripe, Locked.setting_of, Searches.IsSearchFor, Searches.IsSearchUpTo, Sides.StripeSide, Sides.stripe_sight, Sides.stripe_told}
 use Rattle.mc_store.specs.{Calls.IsCutBy, Calls.IsReplied, Calls.IsRepliedBy, Calls.IsSeenGrow, Commands.IsAnswered, Commands.IsCut, Headline.answered_did, Hits.IsOffered, Hits.OffersOne}
 use Rattle.mc_store.specs.{Hits.queue_of, Hits.with_offer, Waking.MakesActive, Waking.reply_in, Waking.woken_in}
 use Rattle.mc_store.proofs.{AccountLemmas.enters_later, AccountLemmas.whole_shared, LockKeepsLemmas.site_of_number}
 use Rattle.mc_store.specs.declared.replied.Replied.{Replied}
-use Rattle.mc_store.proofs.{EarnedRefusalLemmas.search_grows, EarnedRefusalLemmas.told_sees, FullLemmas.full_grows, SyncedStepLemmas.map_length}
+use Rattle.mc_store.proofs.{EarnedRefusalLemmas.search_grows, EarnedRefusalLemmas.told_sees, EarnedRefusalLemmas.up_to_grows, FullLemmas.full_grows, SyncedStepLemmas.map_length}
 use Rattle.mc_store.specs.Callers.{HasNoneOf, asked_for, answered_at, turns_of, calls_told, moment_of}
 use Rattle.mc_store.specs.Passes.{CallerView, PassView, HasAsked, HasCalled, caller_of, next_who, pass_of}
 use Rattle.mc_item.specs.declared.call_event.CallEvent.TheVariants.{Answered, Asked, Crawled, Juggled, Limits}
@@ -100,6 +100,8 @@ module _ {table : TableId} {config : Config} {number : ℕ} {old new : StripeSid
       noted = ends.unnoted ∙ asked;
       stretch = ends.stretch;
       account = entered_by (Err fault) ends who made;
+      search = subst (λ (w : Who). IsSearchUpTo config (visible_row old.stripe command turn.moment).need w turn.moment after ends.stretch) who
+          (up_to_grows config (visible_row old.stripe command turn.moment).need turn.who turn.moment new.sight after ends.stretch grows ends.cut_search);
       full = λ e. full_grows config old.stripe new.stripe new.sight after command turn.moment grows (ends.full (ap Err e));
     };
   }

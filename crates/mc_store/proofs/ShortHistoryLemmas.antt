@@ -1,6 +1,6 @@
 -- Short histories; and small laws of a step: which fault was answered, what a stripe was made with, where a refusal stands.
 use Rattle.std.proofs.Common.{Result, Ok, Err, refl, sym, ap, ◌∙◌, inl, inr, arith, suc}
-use Rattle.std.specs.Prelude.{ℕ, ◌≡◌, ◌<◌, ◌+◌, ◌⊎◌, ◌++◌, List, [], ◌∷◌, Some, length, IsErrAnd, slice_get}
+use Rattle.std.specs.Prelude.{ℕ, ◌≡◌, ◌<◌, ◌+◌, ◌⊎◌, ◌++◌, List, [], ◌∷◌, Some, length, IfOk, IsErrAnd, MatchResult, OnErr, slice_get}
 use Rattle.mc_item.specs.declared.{answer.Site.Site, config.Config.Config, fault.Fault.Fault, fault.Fault.TheVariants.HistoryFull, item.ClassNo.ClassNo, item.Who.Who}
 use Rattle.mc_item.specs.declared.{class_event.ClassEvent.ClassEvent, event.Event.Event}
 use Rattle.mc_segment.specs.{ClassCalls.Makes, ClassCalls.refused_event, ClassState.ClassView}
@@ -20,6 +20,16 @@ err_same x y h = cc
 pub err_is : {T : Type 0} (f : Fault) (r : Result T Fault) → IsErrAnd r (λ x. x ≡ f) → r ≡ Err HistoryFull → f ≡ HistoryFull
 err_is f (Ok x) gives is = absurd gives
 err_is f (Err e) gives is = sym gives ∙ err_same e HistoryFull is
+
+-- what holds of an error holds of one that was handed on
+pub match_err : {T : Type 0} (P : T → Type 0) (E : Type 0) (f : Fault) (r : Result T Fault) → IsErrAnd r (λ x. x ≡ f) → E → MatchResult r P (λ fault. E)
+match_err P E f (Ok x) gives it = absurd gives
+match_err P E f (Err e) gives it = it
+
+-- what is told of both outcomes, in other words
+pub match_more : {T : Type 0} (r : Result T Fault) (P Q : T → Type 0) (E F : Type 0) → ((x : T) → P x → Q x) → (E → F) → IfOk r P → OnErr r E → MatchResult r Q (λ fault. F)
+match_more (Ok x) P Q E F more less p e = more x p
+match_more (Err f) P Q E F more less p e = less e
 
 -- a stripe that was made with a configuration is still, whatever it gained
 pub stripe_made : (config : Config) (s s_new : Stripe) → KeepsSite s s_new → IsStripeOf config s → IsStripeOf config s_new

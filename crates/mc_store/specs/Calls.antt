@@ -14,7 +14,7 @@ use Rattle.mc_evidence.specs.{Locks.ClassKeeps, Locks.StripeKeeps, Seen.classes_
 use Rattle.mc_board.specs.Histories.{list_at}
 use Rattle.mc_board.specs.declared.rule.Sight.{Sight}
 use Rattle.mc_segment.specs.{ClassState.ClassView}
-use Rattle.mc_stripe.specs.{StripeState.Stripe, StripeCalls.KeepsSite}
+use Rattle.mc_stripe.specs.{Plan.visible_row, StripeState.Stripe, StripeCalls.KeepsSite}
 use Rattle.mc_pull.specs.{Juggle.IsJuggle, Question.IsClassOf, Question.IsStripeOf, Rounds.rounds}
 use Rattle.mc_pull.specs.declared.looking.Answer.{Answer}
 use Rattle.mc_store.specs.{
@@ -28,6 +28,7 @@ use Rattle.mc_store.specs.{
   Callers.asked_for,
   Earned.IsEarned,
   Searches.EntersOnce,
+  Searches.IsSearchUpTo,
   Full.IsFullFor,
   Locked.class_lock,
 }
@@ -88,6 +89,7 @@ pub record IsCutBy (config : Config) (number : ℕ) (before after : PassView) (c
   pub noted : after.calls ≡ before.calls ++ asked_for command moment ∷ []
   pub stretch : Stretch
   pub account : Enters (IsOfCommand config old command moment stretch) before.turn after.sight before.made after.made
+  pub search : IsSearchUpTo config (visible_row old command moment).need (next_who before) moment after.sight stretch
   pub full : fault ≡ HistoryFull → IsFullFor config old new after.sight command moment
 
 -- a class's history grew in a call, from that of `c` to this list: what the pass had seen is a beginning of the first, and now it

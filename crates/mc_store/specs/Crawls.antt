@@ -15,7 +15,9 @@ use Rattle.mc_pull.specs.declared.looking.Answer.{Answer}
 use Rattle.mc_crawl.specs.{Crawl.IsCrawled, Crawl.IsReclaim, Crawl.Reclaims, Crawl.crawl, CrawlCount.IsBalanced, CrawlCount.counted_as, Snapshot.links_of}
 use Rattle.mc_crawl.specs.declared.kind.Kind.{Kind}
 use Rattle.mc_stripe.specs.declared.trying.Turn.{Turn}
-use Rattle.mc_store.specs.{Callers.crawling_of, Locked.class_lock, Locked.setting_of, Passes.HasCalled, Passes.PassView, Passes.caller_of, Sides.class_told}
+use Rattle.mc_store.specs.{Accounts.Enters, Accounts.IsOfStretches, Accounts.Stretch, Accounts.stretch_of}
+use Rattle.mc_store.specs.{Callers.crawling_of, Locked.class_lock, Locked.setting_of, Passes.HasCalled}
+use Rattle.mc_store.specs.{Passes.PassView, Passes.caller_of, Passes.next_who, Sides.class_told}
 
 -- at least so many of these events are a `Reclaimed` by this call, at this moment
 abbrev pub HasReclaims : Who → ℕ → ℕ → List Event → Type 0
@@ -63,15 +65,16 @@ pub record CountsOne (config : Config) (c c_new : ClassView) (turn : Turn) (link
   pub reclaims : Reclaims turn.who turn.moment c.history c_new.history histogram.reclaimed histogram_new.reclaimed
 
 -- a link was counted under its class's lock: what was seen before is a beginning of the class's old history, and what is seen
--- after is all of its new one
+-- after is all of its new one, which gained this stretch
 pub record IsLinkCounted (config : Config) (class : ClassNo) (seen seen_new : List Event) (who : Who) (moment : ℕ) (link : Link)
-    (histogram histogram_new : Histogram) : Type 0 where
+    (stretch : Stretch) (histogram histogram_new : Histogram) : Type 0 where
   pub old : ClassView
   pub new : ClassView
   pub made_with : IsClassOf config old
   pub number_is : old.number ≡ class
   pub begins : IsPrefix seen (class_told old.history)
   pub now : seen_new ≡ class_told new.history
+  pub stretch_is : stretch ≡ stretch_of old new
   pub counted : CountsLink config old new who moment link histogram histogram_new
 
 -- a call may crawl links of a class: the class is of the store, and the call has just begun in its pass
@@ -80,26 +83,31 @@ pub record MayCrawl (config : Config) (pass : PassView) (class : ClassNo) (turn 
   pub called : HasCalled (caller_of pass) turn.who turn.moment (crawling_of class turn.moment)
 
 -- a link was counted, as `IsLinkCounted` says by what a pass has seen, once as seen, and the pass has come to see what was reclaimed
-pub record HasCountedLink (config : Config) (class : ClassNo) (before after : Sight) (turn : Turn) (link : Link) (histogram histogram_new : Histogram) :
-    Type 0 where
+pub record HasCountedLink (config : Config) (class : ClassNo) (before after : Sight) (turn : Turn) (link : Link) (stretch : Stretch)
+    (histogram histogram_new : Histogram) : Type 0 where
   pub seen : histogram_new.seen ≡ histogram.seen + 1
   pub reclaims : ShowsReclaims config class before after turn.who turn.moment histogram.reclaimed histogram_new.reclaimed
   pub counted : IsLinkCounted config class (list_at before.seen (class_lock config class)) (list_at after.seen (class_lock config class)) turn.who turn.moment
-      link histogram histogram_new
+      link stretch histogram histogram_new
 
--- these links of a class were counted one after another, each count starting from the one before
-abbrev pub AreLinksCounted : Config → ClassNo → List Event → List Event → Who → ℕ → List Link → Histogram → Histogram → Type 0
-AreLinksCounted config class seen seen_new who moment [] histogram histogram_new = (seen_new ≡ seen) × (histogram_new ≡ histogram)
-AreLinksCounted config class seen seen_new who moment (link ∷ links) histogram histogram_new =
-    (between : List Event) × (middle : Histogram) × IsLinkCounted config class seen between who moment link histogram middle
-    × AreLinksCounted config class between seen_new who moment links middle histogram_new
+-- these links of a class were counted one after another, each in its stretch, and each count starting from the one before
+abbrev pub AreLinksCounted : Config → ClassNo → List Event → List Event → Who → ℕ → List Link → List Stretch → Histogram → Histogram → Type 0
+AreLinksCounted config class seen seen_new who moment [] [] histogram histogram_new = (seen_new ≡ seen) × (histogram_new ≡ histogram)
+AreLinksCounted config class seen seen_new who moment [] (stretch ∷ stretches) histogram histogram_new = ⊥
+AreLinksCounted config class seen seen_new who moment (link ∷ links) [] histogram histogram_new = ⊥
+AreLinksCounted config class seen seen_new who moment (link ∷ links) (stretch ∷ stretches) histogram histogram_new =
+    (between : List Event) × (middle : Histogram) × IsLinkCounted config class seen between who moment link stretch histogram middle
+    × AreLinksCounted config class between seen_new who moment links stretches middle histogram_new
 
 -- a class was crawled: the links that it had at one point were counted one after another, starting from no counts, each as one
--- kind; the pass has seen the events of what was reclaimed, and the class's whole history
-pub record IsCrawledBy (config : Config) (class : ClassNo) (before after : Sight) (who : Who) (moment : ℕ) (histogram : Histogram) : Type 0 where
-  pub snapshot : IsSnapshot config class before after histogram.seen
+-- kind; the pass has seen the events of what was reclaimed, and the class's whole history, and the call made no events of the
+-- class but those of these links
+pub record IsCrawledBy (config : Config) (class : ClassNo) (before after : PassView) (moment : ℕ) (histogram : Histogram) : Type 0 where
+  pub snapshot : IsSnapshot config class before.sight after.sight histogram.seen
   pub balanced : IsBalanced histogram
-  pub reclaims : ShowsReclaims config class before after who moment 0 histogram.reclaimed
-  pub sound : IsSeenSound config class after
-  pub counted : AreLinksCounted config class (class_told snapshot.history) (list_at after.seen (class_lock config class)) who moment snapshot.links no_counts
-      histogram
+  pub reclaims : ShowsReclaims config class before.sight after.sight (next_who before) moment 0 histogram.reclaimed
+  pub sound : IsSeenSound config class after.sight
+  pub stretches : List Stretch
+  pub counted : AreLinksCounted config class (class_told snapshot.history) (list_at after.sight.seen (class_lock config class)) (next_who before) moment
+      snapshot.links stretches no_counts histogram
+  pub account : Enters (IsOfStretches config class stretches) before.turn after.sight before.made after.made

@@ -1,14 +1,15 @@
 -- One try of a command under locks (own).
 use Rattle.std.specs.Prelude.{◌≡◌, ◌++◌, List, ◌∷◌, [], Bool, true, false, Result, Ok, Err, length}
 use Rattle.mc_item.specs.Command.{key_of}
-use Rattle.mc_item.specs.declared.{command.Command.Command, config.Config.Config, fault.Fault.Fault, item.ClassNo.ClassNo, reply.Room.Room}
+use Rattle.mc_item.specs.declared.{command.Command.Command, config.Config.Config, fault.Fault.Fault, item.ClassNo.ClassNo, item.Link.Link, reply.Room.Room}
 use Rattle.mc_segment.specs.ClassState.{with_room}
 use Rattle.mc_stripe.specs.{StripeState.Stripe, Trying.item_of, Trying.row_at, Wanting.IsWanting, Wanting.Uses}
 use Rattle.mc_stripe.specs.declared.{fate.Fate.Fate, wanting.Given.Given, trying.Turn.Turn}
 use Rattle.mc_pull.specs.declared.attempting.Tried.{Tried}
 use Rattle.mc_pull.specs.declared.attempting.Tried.TheVariants as tried
 use Rattle.mc_pull.specs.Perform.{call}
-use Rattle.mc_store.specs.{Accounts.IsOfStretch, Accounts.IsOfTry, Accounts.StillCalls, Accounts.Stretch, Callers.answered_at, Passes.CallerView}
+use Rattle.mc_store.specs.Accounts.{IsOfBurial, IsOfStretch, IsOfTry, StillCalls, Stretch}
+use Rattle.mc_store.specs.{Callers.answered_at, Passes.CallerView}
 use Rattle.mc_store.specs.Performing.{IsMadeOnStripe}
 use Rattle.mc_store.specs.Sides.{ClassSide, StripeSide, stripe_sight}
 use Rattle.mc_store.specs.declared.replied.Replied.{Replied}
@@ -27,6 +28,12 @@ is_made (Err fault) = false
 -- search
 abbrev pub StillTries : Config → Turn → (own own_new : StripeSide) → (caller caller_new : CallerView) → Type 0
 StillTries config turn own own_new = StillCalls (IsOfTry config own.stripe.site.stripe) turn.who.turn (stripe_sight own) (stripe_sight own_new)
+
+-- a command's caller goes on in the command's turn, and its account gained only what the removal of the dead item with this link
+-- may make
+abbrev pub StillBuries : Config → Link → Turn → (own own_new : StripeSide) → (caller caller_new : CallerView) → Type 0
+StillBuries config link turn own own_new =
+    StillCalls (IsOfBurial config own.stripe.site.stripe link) turn.who.turn (stripe_sight own) (stripe_sight own_new)
 
 -- a command's caller goes on in the command's turn, and its account gained only what a search in this stretch of a class may make
 abbrev pub StillSearches : Config → ClassNo → Stretch → Turn → (own own_new : StripeSide) → (caller caller_new : CallerView) → Type 0

@@ -8,7 +8,7 @@ ghost use Rattle.mc_evidence.specs.Setting.{IsClass};
 ghost use Rattle.mc_stripe.specs.{Plan.dead_link, StripeCalls.KeepsSite, StripeState.cache_now};
 ghost use Rattle.mc_stripe.specs.declared.wanting.Want.TheVariants as wants;
 ghost use Rattle.mc_store.specs.{Callers.asked_for, Commands.burial, Full.LacksPlaces, Locked.HasBegunAs, Locked.HasBegunCommand, Locked.setting_of};
-ghost use Rattle.mc_store.specs.Trying.{StillTries};
+ghost use Rattle.mc_store.specs.Trying.{StillBuries};
 ghost use Rattle.mc_store.specs.Held.{Ends, IsCallOn, WantsAlone, class_held};
 
 use crate::caller::Caller;
@@ -104,7 +104,7 @@ fn bury<N: Named>(
         task.entry.turn.moment (Some link)) }
     ensures err { OnErr result (own.new.stripe.history ≡ own.old.stripe.history) }
     ensures sees { Grows own.old.sight own.new.sight }
-    ensures same { KeepsSite own.old.stripe own.new.stripe × StillTries N.config task.entry.turn own.old own.new caller.old caller.new }
+    ensures same { KeepsSite own.old.stripe own.new.stripe × StillBuries N.config link task.entry.turn own.old own.new caller.old caller.new }
     ensures full { IsErrOf result HistoryFull → (own.new.stripe.limit < length own.new.stripe.history + 2) ⊎ LacksPlaces N.config own.new.sight link.class 2 }
 {
     let store = task.store;

@@ -5,11 +5,11 @@ ghost use Rattle.mc_evidence.specs.Setting.{IsClass};
 ghost use Rattle.mc_board.specs.Histories.{list_at};
 ghost use Rattle.mc_pull.specs.Growth as classes;
 ghost use Rattle.mc_crawl.specs.CrawlCount.{IsBalanced, MayCount};
-ghost use Rattle.mc_store.specs.Accounts.{Enters, IsOfWalk, StillCalls};
+ghost use Rattle.mc_store.specs.Accounts.{Enters, IsOfStretch, IsOfWalk, StillCalls, Stretch, stretch_of};
 ghost use Rattle.mc_store.specs.Crawls.{CountsOne, HasCountedLink, IsCrawledBy, IsSeenSound, IsSnapshot, MayCrawl};
-ghost use Rattle.mc_store.specs.{Locked.class_lock, Locked.setting_of, Locked.HasBegunAs, Passes.next_who};
+ghost use Rattle.mc_store.specs.{Locked.class_lock, Locked.setting_of, Locked.HasBegunAs};
 ghost use Rattle.mc_store.specs.{Sides.class_told, Serving.IsLater, Serving.IsShortFor, Serving.MayFailSeen, Walking.LeavesTokens, Walking.MayTry};
-ghost use Rattle.mc_store.specs.Walking.{StillWalks, class_sight};
+ghost use Rattle.mc_store.specs.Walking.{StillWalksFrom, class_sight};
 ghost use Rattle.mc_store.specs.Callers.{crawling_of, turns_of};
 
 use crate::caller::Caller;
@@ -55,8 +55,8 @@ impl<'a, N: Named> Trying<'a, N> {
         ensures fault { IfErr result (MayFailSeen N.config self.new.seen.now.sight class.new) }
         ensures references { (self.new.caller.ghost_name ≡ self.old.caller.ghost_name) × (self.new.owner.ghost_name ≡ self.old.owner.ghost_name)
             × (self.new.seen.ghost_name ≡ self.old.seen.ghost_name)
-            × StillWalks N.config class.old.number context.entry.turn.who.turn self.old.seen.now.sight self.new.seen.now.sight class.old.history
-            class.new.history self.old.caller.now self.new.caller.now }
+            × StillWalksFrom N.config class.old.number (length self.old.owner.now.history) context.entry.turn.who.turn self.old.seen.now.sight
+            self.new.seen.now.sight class.old.history class.new.history self.old.caller.now self.new.caller.now }
         ensures left { LeavesTokens N.board.table N.config context.entry.turn.who context.entry.turn.moment self.old.seen.now.sight class.old
             self.new.owner.now self.new.seen.now class.new }
     {
@@ -88,8 +88,8 @@ fn crawl_under<N: Named>(
     ensures counted { OnOk result (CountsOne N.config class.old.class class.new.class call.entry.turn link histogram.old histogram.new) }
     ensures balanced { IsBalanced histogram.old → IsBalanced histogram.new }
     ensures class { classes.GainsEvents class.old.class class.new.class }
-    ensures still { StillCalls (IsOfWalk N.config class.old.class.number) call.entry.turn.who.turn (class_sight N.config class.old)
-        (class_sight N.config class.new) caller.old caller.new }
+    ensures still { StillCalls (IsOfStretch N.config class.old.class.number (stretch_of class.old.class class.new.class)) call.entry.turn.who.turn
+        (class_sight N.config class.old) (class_sight N.config class.new) caller.old caller.new }
     ensures fault { IfErr result (MayFailSeen N.config class.new.sight class.new.class) }
 {
     let store = call.store;
@@ -151,7 +151,9 @@ impl<N: Named> Store<N> {
         requires may { MayCrawl N.config pass.old crawling.class crawling.turn }
         requires counts { MayCount histogram.old }
         ensures balanced { IsBalanced histogram.old → IsBalanced histogram.new }
-        ensures counted { OnOk result (HasCountedLink N.config crawling.class pass.old.sight pass.new.sight crawling.turn link histogram.old histogram.new) }
+        ensures counted { OnOk result ((stretch : Stretch)
+            × HasCountedLink N.config crawling.class pass.old.sight pass.new.sight crawling.turn link stretch histogram.old histogram.new
+            × Enters (IsOfStretch N.config crawling.class stretch) crawling.turn.who.turn pass.new.sight pass.old.made pass.new.made) }
         ensures sound { IsSeenSound N.config crawling.class pass.new.sight }
         ensures grows { IsLater pass.old.sight pass.new.sight }
         ensures same { (pass.new ≡ record pass.old { sight = pass.new.sight; made = pass.new.made })
@@ -188,7 +190,7 @@ impl<N: Named> Store<N> {
         moment: u64,
     ) -> Result<Histogram, Fault>
         requires class { IsClass (setting_of N.config) class }
-        ensures crawled { IfOk result (IsCrawledBy N.config class pass.old.sight pass.new.sight (next_who pass.old) moment) }
+        ensures crawled { IfOk result (IsCrawledBy N.config class pass.old pass.new moment) }
         ensures few { IfOk result (λ histogram. histogram.seen ≤ 2 ^ 32) }
         ensures hands { pass.new.hands ≡ pass.old.hands }
         ensures grows { IsLater pass.old.sight pass.new.sight }

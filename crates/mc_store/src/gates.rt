@@ -1,6 +1,6 @@
 //! Gates: how a walk under a class's lock reaches the stripes of its entries. A stripe's lock is tried, and never waited for.
-ghost use Rattle.std.specs.Prelude.{◌≡◌, ◌≢◌, ◌≤◌, ◌+◌, List, IfErr, IfOk, false, length, true};
-ghost use Rattle.mc_pull.specs.{Growth.GainsEvents, Growth.GainsFor, Juggle.IsJuggle, Rounds.IsRoom, Rounds.rounds_by};
+ghost use Rattle.std.specs.Prelude.{◌≡◌, ◌≢◌, ◌≤◌, ◌+◌, List, IfErr, IfOk, MatchResult, false, length, true};
+ghost use Rattle.mc_pull.specs.{Broken.BreaksRoom, Growth.GainsEvents, Growth.GainsFor, Juggle.IsJuggle, Rounds.IsRoom, Rounds.rounds_by};
 ghost use Rattle.mc_pull.specs.Walker.{walker_by};
 ghost use Rattle.mc_pull.specs.declared.looking.Answer.{Answer};
 ghost use Rattle.mc_store.specs.{Earned.IsSearchInVain, Looked.IsOfCall, Serving.MayFailSeen};
@@ -219,7 +219,9 @@ impl<'a, 'b, N: Named> Holding<'a, 'b, N> {
     ) -> Result<bool, Fault>
         requires gate { MayTry N.board.table N.config context self.old.others.caller.now self.old.others.owner.now self.old.others.seen.now class.old
             self.old.others.who self.old.others.moment }
-        ensures room { IfOk result (λ found. (xs : List Answer) × IsRoom (rounds_by class.old context.entry) class.old.history xs class.new.history found) }
+        ensures room { MatchResult result
+            (λ found. (xs : List Answer) × IsRoom (rounds_by class.old context.entry) class.old.history xs class.new.history found)
+            (λ fault. (xs : List Answer) × BreaksRoom (rounds_by class.old context.entry) class.old.history xs class.new.history) }
         ensures grows { GainsEvents class.old class.new }
         ensures fault { IfErr result (MayFailSeen N.config self.new.others.seen.now.sight class.new) }
         ensures references { (self.new.own.ghost_name ≡ self.old.own.ghost_name) × (self.new.others.caller.ghost_name ≡ self.old.others.caller.ghost_name)

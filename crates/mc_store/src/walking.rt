@@ -1,10 +1,10 @@
 //! Walks under the locks of a store: making room in a class, juggling it, removing a dead item.
-ghost use Rattle.std.specs.Prelude.{◌≡◌, ◌≤◌, ◌<◌, ◌+◌, ◌++◌, ◌∷◌, ◌⊎◌, [], List, Some, IfOk, IfErr, OnOk, OnErr, IsErrOf, false, length};
+ghost use Rattle.std.specs.Prelude.{◌≡◌, ◌≤◌, ◌<◌, ◌+◌, ◌++◌, ◌∷◌, ◌⊎◌, [], List, Some, IfOk, IfErr, OnOk, OnErr, IsErrOf, MatchResult, false, length};
 ghost use Rattle.mc_item.specs.Command.{key_of};
 ghost use Rattle.mc_item.specs.declared.{fault.Fault.TheVariants.HistoryFull, stripe_event.Cause.TheVariants.Expired};
 ghost use Rattle.mc_stripe.specs.{Plan.dead_link, StripeCalls.KeepsSite, StripeState.cache_now};
 ghost use Rattle.mc_pull.specs.Growth as classes;
-ghost use Rattle.mc_pull.specs.{Juggle.IsJuggle, Lone.StripeGrows, Rounds.IsRoom, Rounds.rounds, Settled.lost_event, Walker.walker_of};
+ghost use Rattle.mc_pull.specs.{Broken.BreaksRoom, Juggle.IsJuggle, Lone.StripeGrows, Rounds.IsRoom, Rounds.rounds, Settled.lost_event, Walker.walker_of};
 ghost use Rattle.mc_pull.specs.declared.looking.Answer.{Answer};
 ghost use Rattle.mc_store.specs.{
   Accounts.IsOfWalk,
@@ -16,7 +16,7 @@ ghost use Rattle.mc_store.specs.{
   Serving.MayFailSeen,
 };
 ghost use Rattle.mc_store.specs.{Locked.HasBegunAs, Locked.HasBegunCommand, Locked.HasBegunSearch, Walking.LeavesSearch, Walking.MayWalkWith};
-ghost use Rattle.mc_store.specs.{Accounts.stretch_of, Searches.HasSeenOf, Trying.StillSearches, Trying.StillTries, Walking.StillWalksFrom};
+ghost use Rattle.mc_store.specs.{Accounts.stretch_of, Searches.HasSeenOf, Trying.StillBuries, Trying.StillSearches, Walking.StillWalksFrom};
 ghost use Rattle.mc_store.specs.Walking.{class_sight};
 ghost use Rattle.mc_board.specs.Histories.{Grows};
 
@@ -42,8 +42,11 @@ fn make_room_with<N: Named>(
     caller: &mut Caller<N>,
 ) -> Result<bool, Fault>
     requires tokens { MayWalkWith N.board.table N.config caller.old owner.old seen.old class.old task.turn.who task.turn.moment }
-    ensures room { IfOk result (λ found. (xs : List Answer) × IsRoom (rounds class.old task.entry.turn.who task.entry.turn.moment N.config) class.old.history
-        xs class.new.history found) }
+    ensures room { MatchResult result
+        (λ found. (xs : List Answer) × IsRoom (rounds class.old task.entry.turn.who task.entry.turn.moment N.config) class.old.history xs class.new.history
+        found)
+        (λ fault. (xs : List Answer) × BreaksRoom (rounds class.old task.entry.turn.who task.entry.turn.moment N.config) class.old.history xs
+        class.new.history) }
     ensures class { classes.GainsEvents class.old class.new }
     ensures left { LeavesSearch N.board.table N.config (walker_of class.old task.entry.turn.who task.entry.turn.moment) seen.old.sight class.old
         own.old.stripe owner.new seen.new class.new own.new.stripe }
@@ -85,8 +88,11 @@ pub(crate) fn make_room_under<N: Named>(
     caller: &mut Caller<N>,
 ) -> Result<bool, Fault>
     requires begun { HasBegunSearch N.config own.old.sight task.turn.who task.turn.moment × (task.turn.who.caller ≡ caller.old.number) }
-    ensures room { IfOk result (λ found. (xs : List Answer) × IsRoom (rounds class.old.class task.entry.turn.who task.entry.turn.moment N.config)
-        class.old.class.history xs class.new.class.history found) }
+    ensures room { MatchResult result
+        (λ found. (xs : List Answer) × IsRoom (rounds class.old.class task.entry.turn.who task.entry.turn.moment N.config) class.old.class.history xs
+        class.new.class.history found)
+        (λ fault. (xs : List Answer) × BreaksRoom (rounds class.old.class task.entry.turn.who task.entry.turn.moment N.config) class.old.class.history xs
+        class.new.class.history) }
     ensures class { classes.GainsEvents class.old.class class.new.class }
     ensures leaves { StripeGrows (walker_of class.old.class task.entry.turn.who task.entry.turn.moment) own.old.stripe own.new.stripe
         × StillSearches N.config class.old.class.number (stretch_of class.old.class class.new.class) task.entry.turn own.old own.new caller.old
@@ -157,7 +163,7 @@ pub(crate) fn juggle_under<N: Named>(
 
 // Removes the dead item of a key, and its entry. `link` is the item's, and the class is the link's. After a fault both histories
 // are as they were. The class learns of the call from the stripe, which has seen it. The caller's account gains only events of
-// this stripe and a class.
+// this stripe, and that the item's entry was removed.
 pub(crate) fn bury_under<N: Named>(
     task: Task<'_, N>,
     own: &mut LockedStripe<N>,
@@ -172,7 +178,7 @@ pub(crate) fn bury_under<N: Named>(
         task.entry.turn.moment) ∷ []) }
     ensures err { OnErr result (own.new.stripe.history ≡ own.old.stripe.history) }
     ensures sees { Grows own.old.sight own.new.sight }
-    ensures same { KeepsSite own.old.stripe own.new.stripe × StillTries N.config task.entry.turn own.old own.new caller.old caller.new }
+    ensures same { KeepsSite own.old.stripe own.new.stripe × StillBuries N.config link task.entry.turn own.old own.new caller.old caller.new }
     ensures full { IsErrOf result HistoryFull → (own.new.stripe.limit < length own.new.stripe.history + 2) ⊎ LacksPlaces N.config own.new.sight link.class 2 }
 {
     let store = task.store;

@@ -6,8 +6,8 @@ use Rattle.mc_stripe.specs.{StripeCalls.KeepsSite, StripeState.Stripe, Trying.it
 use Rattle.mc_store.specs.{Callers.asked_for, Passes.CallerView, Passes.HasAsked, Sides.StripeSide}
 use Rattle.mc_store.proofs.{CallerLemmas.asked_called, CallerLemmas.begun_as_sees, CommandLemmas.buried_alive, CommandLemmas.not_dead, HeldTryLemmas.made_alone}
 use Rattle.mc_store.proofs.{HeldTryLemmas.some_none, ShortHistoryLemmas.stripe_made, UnderLockLemmas.searched_itself, UnderLockLemmas.site_itself}
-use Rattle.mc_store.proofs.CommandEndLemmas.{buried_now, ends_buried, ends_early, ends_err, ends_made, ends_same, no_search}
-use Rattle.mc_store.proofs.EnteredLemmas.{heard_tried, makes_none, makes_tried, no_stretch, tries_asked, tries_heard}
+use Rattle.mc_store.proofs.CommandEndLemmas.{buried_now, ends_broken, ends_buried, ends_err, ends_made, ends_same, no_search}
+use Rattle.mc_store.proofs.EnteredLemmas.{heard_buried, makes_buried, makes_none, makes_tried, no_stretch, tries_asked, tries_heard}
 use Rattle.mc_store.specs.declared.replied.Replied.{Replied}
 use Rattle.mc_store.proofs.answering.answer_want.Goals as goal
 
@@ -64,10 +64,15 @@ returns-in_err-bury-in-Burial g c =
     let config = g.N.Named.config in
     let command = c.args.task.command.now in
     let turn = c.args.task.turn in
-    ends_early config command turn c.args.own.now c.bury.new.own c.args.caller.now c.bury.new.caller c.from_residual.result c.in_err-bury-in-Burial.field-0.0 c.from_residual.ensures.1
+    let own = c.args.own.now in
+    let end = c.bury.new.own in
+    let link = c.in-Burial.link in
+    let dead = rw c.in-Burial.is at c.requires.wants in
+    ends_broken config command turn own end c.args.caller.now c.bury.new.caller c.from_residual.result c.in_err-bury-in-Burial.field-0.0 c.from_residual.ensures.1
     (subst (λ (t : Stripe). KeepsSite t c.bury.new.own.stripe) told c.bury.ensures.same.0) (c.in_err-bury-in-Burial.ensures.err ∙ ap (λ (t : Stripe). t.history) told)
-    (heard_tried config turn c.args.own.now c.tell_stripe.new.stripe c.bury.new.own c.tell_stripe.ensures.stripe c.tell_stripe.ensures.grows c.tell_stripe.ensures.same c.bury.ensures.same.1)
-    (λ is. inr (inl (record { link = c.in-Burial.link; dead = rw c.in-Burial.is at c.requires.wants; lacks = c.bury.ensures.full (c.in_err-bury-in-Burial.was ∙ ap Err is) })))
+    (makes_buried config command turn no_stretch own end link dead
+    (heard_buried config turn own c.tell_stripe.new.stripe end link c.tell_stripe.ensures.stripe c.tell_stripe.ensures.grows c.tell_stripe.ensures.same c.bury.ensures.same.1))
+    (λ is. inr (inl (record { link = link; dead = dead; lacks = c.bury.ensures.full (c.in_err-bury-in-Burial.was ∙ ap Err is) })))
 
 pub returns-in_err-reply-in-Burial : goal.returns-in_err-reply-in-Burial
 returns-in_err-reply-in-Burial g c =
@@ -85,11 +90,13 @@ returns-in_err-reply-in-Burial g c =
     let k = c.bury.new.caller in
     let caller = c.try_alone.new.caller in
     let r = c.from_residual-in_err-reply-in-Burial.result in
-    ends_buried config command turn c.args.own.now own site c.args.caller.now k
-    (heard_tried config turn c.args.own.now c.tell_stripe.new.stripe c.bury.new.own c.tell_stripe.ensures.stripe c.tell_stripe.ensures.grows c.tell_stripe.ensures.same c.bury.ensures.same.1) buried end caller r
+    ends_buried config command turn c.args.own.now own site c.args.caller.now k c.in-Burial.link (rw c.in-Burial.is at c.requires.wants)
+    (heard_buried config turn c.args.own.now c.tell_stripe.new.stripe c.bury.new.own c.in-Burial.link c.tell_stripe.ensures.stripe c.tell_stripe.ensures.grows c.tell_stripe.ensures.same c.bury.ensures.same.1)
+    buried end caller r
     (ends_err config command turn own own (buried_alive s mid turn.who command turn.moment site buried) (searched_itself config turn.who command turn.moment mid mid refl) (site_itself mid) no_stretch end k caller r
     c.in_err-reply-in-Burial.field-0.0 c.from_residual-in_err-reply-in-Burial.ensures.1 c.try_alone.ensures.site c.in_err-reply-in-Burial.ensures.err
     (makes_tried config command turn no_stretch own end c.in_err-reply-in-Burial.ensures.unnoted)
+    (inl (no_search config command turn own end))
     (λ is. inl (c.try_alone.ensures.full (c.in_err-reply-in-Burial.was ∙ ap Err is))))
 
 pub answer_with-requires-in-Classes-left-clause-begun : goal.answer_with-requires-in-Classes-left-clause-begun
@@ -145,8 +152,9 @@ returns-in-Made g c =
     let k = c.bury.new.caller in
     let caller = c.try_alone.new.caller in
     let reply : Replied = record { reply = c.in-Made.reply; woken = c.in-Made.woken } in
-    ends_buried config command turn c.args.own.now own site c.args.caller.now k
-    (heard_tried config turn c.args.own.now c.tell_stripe.new.stripe c.bury.new.own c.tell_stripe.ensures.stripe c.tell_stripe.ensures.grows c.tell_stripe.ensures.same c.bury.ensures.same.1) buried end caller (Ok reply)
+    ends_buried config command turn c.args.own.now own site c.args.caller.now k c.in-Burial.link (rw c.in-Burial.is at c.requires.wants)
+    (heard_buried config turn c.args.own.now c.tell_stripe.new.stripe c.bury.new.own c.in-Burial.link c.tell_stripe.ensures.stripe c.tell_stripe.ensures.grows c.tell_stripe.ensures.same c.bury.ensures.same.1)
+    buried end caller (Ok reply)
     (ends_made config command turn own own (buried_alive s mid turn.who command turn.moment site buried)
     (searched_itself config turn.who command turn.moment mid mid refl) (site_itself mid) no_stretch end k k caller reply
     (stripe_made config s mid site c.law.ensures.made_with) c.try_alone.ensures.site (makes_none config command turn no_stretch own k) (no_search config command turn own end)
@@ -167,7 +175,7 @@ returns-in-Classes-left g c =
     let with = c.answer_with-in-Classes-left in
     let own = c.bury.new.own in
     let k = c.bury.new.caller in
-    ends_buried config command turn c.args.own.now own site c.args.caller.now k
-    (heard_tried config turn c.args.own.now c.tell_stripe.new.stripe c.bury.new.own c.tell_stripe.ensures.stripe c.tell_stripe.ensures.grows c.tell_stripe.ensures.same c.bury.ensures.same.1)
+    ends_buried config command turn c.args.own.now own site c.args.caller.now k c.in-Burial.link (rw c.in-Burial.is at c.requires.wants)
+    (heard_buried config turn c.args.own.now c.tell_stripe.new.stripe c.bury.new.own c.in-Burial.link c.tell_stripe.ensures.stripe c.tell_stripe.ensures.grows c.tell_stripe.ensures.same c.bury.ensures.same.1)
     buried with.new.own with.new.caller with.result
     (ends_same config command turn own c.try_alone.new.own c.try_alone.ensures.site k c.try_alone.new.caller tried.1 tried.0 with.new.own with.new.caller with.result with.ensures)

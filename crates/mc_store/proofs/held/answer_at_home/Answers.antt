@@ -1,4 +1,4 @@
-use Rattle.std.proofs.Common.{◌≡◌, ◌++◌, ◌∷◌, [], ◌∙◌, ℕ, List, Err, ap, inl, inr, refl, sym, subst, ⊎_elim}
+use Rattle.std.proofs.Common.{◌≡◌, ◌++◌, ◌∷◌, [], ◌∙◌, ℕ, List, Err, ap, inl, inr, length, refl, sym, subst, ⊎_elim}
 use Rattle.std.specs.Prelude.{Option, Some}
 use Rattle.mc_item.specs.Command.{key_of}
 use Rattle.mc_item.specs.declared.{answer.Site.Site, class_event.ClassEvent.ClassEvent, fault.Fault.TheVariants.HistoryFull, item.ClassNo.ClassNo}
@@ -6,7 +6,7 @@ use Rattle.mc_item.specs.declared.{item.StripeNo.StripeNo}
 use Rattle.mc_segment.specs.{ClassCalls.refused_event, ClassState.ClassView}
 use Rattle.mc_stripe.specs.{Plan.visible_row, StripeCalls.KeepsSite, StripeState.Stripe}
 use Rattle.mc_store.specs.{Earned.HasGivenUp, Earned.IsEarnedAt, Full.HasSeenFull, Full.LacksEntries, Held.Suffice, Held.class_held}
-use Rattle.mc_store.specs.{Accounts.stretch_of, Searches.HasSeenOf, Serving.IsShortFor, Sides.StripeSide, Trying.StillSearches}
+use Rattle.mc_store.specs.{Accounts.stretch_of, Searches.HasSeenOf, Searches.IsSearchFor, Serving.IsShortFor, Sides.StripeSide, Trying.StillSearches}
 use Rattle.mc_store.proofs.AccountLemmas.{still_longer}
 use Rattle.mc_store.proofs.EarnedRefusalLemmas.{made_longer, refused_bounds, search_alone, search_grows, search_refused, seen_of_grows, stayed_longer}
 use Rattle.mc_store.proofs.{CallerLemmas.search_sees, NeededClassLemmas.begun_search, NeededClassLemmas.suffice_behind}
@@ -57,10 +57,14 @@ returns-in_err-reply g c =
     let searched = searched_walk config command c.args.task.turn s mid c.args.home.now.class.number alive c.requires.wants.fresh c.search.ensures.walked in
     let need = fresh_visible s command c.args.task.turn.moment c.args.home.now.class.number alive c.requires.wants.fresh in
     let found = makes_searched config command c.args.task.turn stretch c.args.own.now c.search.new.own c.args.home.now.class.number need c.search.ensures.same.1 in
+    let whole = search_grows config (visible_row s command c.args.task.turn.moment).need c.args.task.turn.who c.args.task.turn.moment c.search.new.own.sight c.try_home.new.own.sight stretch c.try_home.ensures.sees
+    (search_alone config (visible_row s command c.args.task.turn.moment).need c.args.task.turn.who c.args.task.turn.moment c.search.new.own.sight c.args.home.now.class c.search.new.home.class need
+    c.in_ok-search.ensures.tried.1) in
     ends_err config command c.args.task.turn c.args.own.now c.search.new.own alive searched c.search.ensures.site stretch c.try_home.new.own c.args.caller.now c.try_home.new.caller
     c.from_residual-in_err-reply.result c.in_err-reply.field-0.0 c.from_residual-in_err-reply.ensures.1
     c.try_home.ensures.site c.in_err-reply.ensures.err.0
     (makes_then_tried config command c.args.task.turn stretch c.args.own.now c.search.new.own c.try_home.new.own c.search.ensures.site.site found c.in_err-reply.ensures.err.1)
+    (inl whole)
     (λ is. inl (c.try_home.ensures.full (c.in_err-reply.was ∙ ap Err is)))
 
 pub returns-in_err-search : goal.returns-in_err-search
@@ -75,7 +79,7 @@ returns-in_err-search g c =
     let need = fresh_visible s command c.args.task.turn.moment c.args.home.now.class.number alive c.requires.wants.fresh in
     let found = makes_searched config command c.args.task.turn stretch c.args.own.now c.search.new.own c.args.home.now.class.number need c.search.ensures.same.1 in
     ends_err config command c.args.task.turn c.args.own.now c.search.new.own alive searched c.search.ensures.site stretch c.search.new.own c.args.caller.now c.search.new.caller
-    c.from_residual.result c.in_err-search.field-0.0 c.from_residual.ensures.1 (site_itself mid) refl found
+    c.from_residual.result c.in_err-search.field-0.0 c.from_residual.ensures.1 (site_itself mid) refl found (inr (c.args.home.now.class.number, need, c.in_err-search.ensures.tried))
     (λ is.
     let full = c.search.ensures.full (c.in_err-search.was ∙ ap Err is) in
     full_search config s mid c.search.new.own.sight command c.args.task.turn.moment c.args.home.now.class.number alive c.requires.wants.fresh full.0 (inl full.1))
@@ -153,8 +157,16 @@ returns-in_err-place-in-Room g c =
     let caller = makes_then_searched config command turn stretch c.args.own.now c.try_home.new.own c.refuse.new.own n need tries refused in
     let end = c.refuse.new.own in
     let own : end.stripe ≡ c.try_home.new.own.stripe = ap (λ (x : StripeSide). x.stripe) c.refuse.ensures.own.0 in
+    let wanted = (visible_row s command turn.moment).need in
+    let same_history : c.search.new.home.class.history ≡ c.refuse.new.lent.class.history =
+    sym (ap (λ (v : ClassView). v.history) c.in_err-place-in-Room.ensures.err.0 ∙ full_history) in
+    let sees = grows_trans c.search.new.own.sight c.try_home.new.own.sight end.sight c.try_home.ensures.sees c.refuse.ensures.own.1 in
+    let whole = subst (λ (h : List ClassEvent). IsSearchFor config wanted turn.who turn.moment end.sight (record { from = length c.args.home.now.class.history; until = length h })) same_history
+    (search_grows config wanted turn.who turn.moment c.search.new.own.sight end.sight (stretch_of c.args.home.now.class c.search.new.home.class) sees
+    (search_alone config wanted turn.who turn.moment c.search.new.own.sight c.args.home.now.class c.search.new.home.class need c.in_ok-search.ensures.tried.1)) in
     ends_err config command turn c.args.own.now c.search.new.own alive searched c.search.ensures.site stretch end c.args.caller.now c.refuse.new.caller c.from_residual-in_err-place-in-Room.result
     c.in_err-place-in-Room.field-0.0 c.from_residual-in_err-place-in-Room.ensures.1 (subst (λ (t : Stripe). KeepsSite mid t) (sym own) c.try_home.ensures.site) (ap (λ (t : Stripe). t.history) own ∙ tried.0) caller
+    (inl whole)
     (λ is.
     let seen = seen_full_grows config c.try_home.new.own.sight end.sight c.refuse.ensures.own.1
     (subst (HasSeenFull config c.try_home.new.own.sight) (full.0.number_is ∙ c.search.ensures.same.0) full.0.seen) in
@@ -266,10 +278,18 @@ returns-in_err-reply-in-Room g c =
     c.refuse.ensures.still) in
     let caller = makes_then_searched config command turn stretch c.args.own.now c.try_home.new.own c.refuse.new.own n need tries refused in
     let searched = searched_walk config command turn s mid c.args.home.now.class.number alive c.requires.wants.fresh c.search.ensures.walked in
+    let end = c.try_home-in-Room.new.own in
+    let history : c.refuse.new.lent.class.history ≡ c.search.new.home.class.history ++ refused_event turn.who ∷ [] =
+    ap (λ (v : ClassView). v.history) c.in_ok-place-in-Room.ensures.refused ∙ ap (λ (h : List ClassEvent). h ++ refused_event turn.who ∷ []) full_history in
+    let seen = subst (λ (k : ClassNo). HasSeenOf config c.refuse.new.own.sight k c.refuse.new.lent.class.history) (full.0.number_is ∙ c.search.ensures.same.0) c.refuse.ensures.own.2 in
+    let sought = search_refused config (visible_row s command turn.moment).need turn.who turn.moment c.search.new.own.sight end.sight c.args.home.now.class c.search.new.home.class c.refuse.new.lent.class need
+    full.0.was_full c.in_ok-search.ensures.tried.1 history
+    (seen_of_grows config n c.refuse.new.lent.class.history c.refuse.new.own.sight end.sight c.try_home-in-Room.ensures.sees seen) in
     ends_err config command turn c.args.own.now c.refuse.new.own alive (searched_same mid last site same command turn.moment config turn.who s searched) (site_both s mid last c.search.ensures.site site)
     stretch c.try_home-in-Room.new.own c.args.caller.now c.try_home-in-Room.new.caller c.from_residual-in_err-reply-in-Room.result c.in_err-reply-in-Room.field-0.0 c.from_residual-in_err-reply-in-Room.ensures.1
     c.try_home-in-Room.ensures.site c.in_err-reply-in-Room.ensures.err.0
     (makes_then_tried config command turn stretch c.args.own.now c.refuse.new.own c.try_home-in-Room.new.own (site.site ∙ c.search.ensures.site.site) caller c.in_err-reply-in-Room.ensures.err.1)
+    (inl sought)
     (λ is. inl (c.try_home-in-Room.ensures.full (c.in_err-reply-in-Room.was ∙ ap Err is)))
 
 pub returns-in-Place : goal.returns-in-Place
@@ -285,8 +305,12 @@ returns-in-Place g c =
     let searched = searched_walk config command turn s mid c.args.home.now.class.number alive c.requires.wants.fresh c.search.ensures.walked in
     let need = fresh_visible s command turn.moment c.args.home.now.class.number alive c.requires.wants.fresh in
     let found = makes_searched config command turn stretch c.args.own.now c.search.new.own c.args.home.now.class.number need c.search.ensures.same.1 in
+    let whole = search_grows config (visible_row s command c.args.task.turn.moment).need c.args.task.turn.who c.args.task.turn.moment c.search.new.own.sight c.try_home.new.own.sight stretch c.try_home.ensures.sees
+    (search_alone config (visible_row s command c.args.task.turn.moment).need c.args.task.turn.who c.args.task.turn.moment c.search.new.own.sight c.args.home.now.class c.search.new.home.class need
+    c.in_ok-search.ensures.tried.1) in
     ends_cut config command turn c.args.own.now c.search.new.own alive searched c.search.ensures.site stretch c.try_home.new.own c.args.caller.now c.try_home.new.caller HistoryFull c.try_home.ensures.site tried.0
     (makes_then_tried config command turn stretch c.args.own.now c.search.new.own c.try_home.new.own c.search.ensures.site.site found tried.1)
+    (inl whole)
     (λ is.
     let entries = rw c.in-Place.is at tried.2 in
     let end = c.try_home.new.own in
@@ -334,9 +358,17 @@ returns-in-Wants-2 g c =
     let again_suffice = subst (λ (n : ClassNo). Suffice (Some n) (class_held c.try_home.new.other) last c.args.task.command.now turn.moment) (sym number)
     (subst (λ (o : Option ClassNo). Suffice (Some class) o last c.args.task.command.now turn.moment) (sym full.1) later) in
     let searched = searched_walk config command turn s mid class alive c.requires.wants.fresh c.search.ensures.walked in
+    let last_own = c.try_home-in-Room.new.own in
+    let history : c.refuse.new.lent.class.history ≡ c.search.new.home.class.history ++ refused_event turn.who ∷ [] =
+    ap (λ (v : ClassView). v.history) c.in_ok-place-in-Room.ensures.refused ∙ ap (λ (h : List ClassEvent). h ++ refused_event turn.who ∷ []) full_history in
+    let told = subst (λ (k : ClassNo). HasSeenOf config c.refuse.new.own.sight k c.refuse.new.lent.class.history) (full.0.number_is ∙ c.search.ensures.same.0) c.refuse.ensures.own.2 in
+    let sought = search_refused config (visible_row s command turn.moment).need turn.who turn.moment c.search.new.own.sight last_own.sight c.args.home.now.class c.search.new.home.class
+    c.refuse.new.lent.class need full.0.was_full c.in_ok-search.ensures.tried.1 history
+    (seen_of_grows config n c.refuse.new.lent.class.history c.refuse.new.own.sight last_own.sight c.try_home-in-Room.ensures.sees told) in
     ends_cut config command turn c.args.own.now c.refuse.new.own alive (searched_same mid last site same command turn.moment config turn.who s searched) (site_both s mid last c.search.ensures.site site)
     stretch c.try_home-in-Room.new.own c.args.caller.now c.try_home-in-Room.new.caller HistoryFull c.try_home-in-Room.ensures.site again.0
     (makes_then_tried config command turn stretch c.args.own.now c.refuse.new.own c.try_home-in-Room.new.own (site.site ∙ c.search.ensures.site.site) caller again.1)
+    (inl sought)
     (λ is.
     let end = c.try_home-in-Room.new.own in
     let seen = seen_full_grows config c.try_home.new.own.sight end.sight (grows_trans c.try_home.new.own.sight c.refuse.new.own.sight end.sight c.refuse.ensures.own.1 c.try_home-in-Room.ensures.sees)

@@ -1,6 +1,8 @@
-use Rattle.std.proofs.Common.{◌∙◌, Err, ap, inr, rules, sym}
+use Rattle.std.proofs.Common.{◌∙◌, Err, ap, inr, refl, rules, sym}
 use Rattle.mc_segment.specs.ClassState.{ClassView}
-use Rattle.mc_store.proofs.{EarnedRefusalLemmas.gone_through, EarnedRefusalLemmas.searched_once, FullLemmas.seen_before, ShortHistoryLemmas.err_is, VisitedStripeLemmas.full_vain}
+use Rattle.mc_store.proofs.EarnedRefusalLemmas.{gone_through, searched_broken, searched_once}
+use Rattle.mc_store.proofs.{FullLemmas.seen_before, ShortHistoryLemmas.err_is, ShortHistoryLemmas.match_err, VisitedStripeLemmas.full_vain}
+use Rattle.mc_store.specs.{Accounts.stretch_of, Searches.IsCutSearch}
 use Rattle.mc_store.proofs.held.search.Goals as goal
 
 pub make_room_under-requires : goal.make_room_under-requires
@@ -30,6 +32,25 @@ returns-clause-tried g c =
           ),
       inr (searched_once config was who moment found.ensures.room.0 new.history found.field-0 made_with found.ensures.room.1, c.make_room_under.ensures.seen),
     )
+
+pub returns-in_err-make_room_under-clause-tried : goal.returns-in_err-make_room_under-clause-tried
+returns-in_err-make_room_under-clause-tried g c =
+    let config = g.N.Named.config in
+    let was = c.args.home.now.class in
+    let new = c.make_room_under.new.class.class in
+    let who = c.args.task.turn.who in
+    let moment = c.args.task.turn.moment in
+    let broken = c.in_err-make_room_under.ensures.room in
+    let Cut = IsCutSearch config was.number who moment c.make_room_under.new.own.sight (stretch_of was new) in
+    let cut : Cut = record {
+      before = was.history;
+      searched = new.history;
+      broken = searched_broken config was who moment broken.0 new.history c.side.ensures.kept.held.made_with broken.1;
+      from_is = refl;
+      until_is = refl;
+      seen = c.make_room_under.ensures.seen;
+    } in
+    match_err _ Cut c.in_err-make_room_under.field-0.0 c.from_residual.result c.from_residual.ensures.1 cut
 
 pub returns-clause-seen : goal.returns-clause-seen
 returns-clause-seen g c =

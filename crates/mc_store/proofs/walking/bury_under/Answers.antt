@@ -9,9 +9,9 @@ use Rattle.mc_pull.specs.declared.{judge.Done.Done, judge.Judge.TheVariants.Dead
 use Rattle.mc_pull.proofs.OneStripeGateLemmas.{settle_walked}
 use Rattle.mc_store.proofs.{DeadEntryLemmas.dead_listed, DeadEntryLemmas.dead_reclaimed, DeadEntryLemmas.told_dead, ShortHistoryLemmas.err_is, OwnEventLemmas.GainsFit, OwnEventLemmas.gains_settled}
 use Rattle.mc_store.proofs.{OwnEventLemmas.locked_told, CallerLemmas.begun_sees, CallerLemmas.command_any, CallerLemmas.command_sees, LockKeepsLemmas.grows_trans}
-use Rattle.mc_store.specs.{Accounts.IsClassLock, Passes.CallerView, Sides.ClassSide, Sides.StripeSide, Sides.stripe_told, Full.LacksPlaces, Serving.class_side, Trying.StillTries}
-use Rattle.mc_store.specs.Locked.{HasBegun, HasBegunCommand, IsHeldClass, IsLockedClass}
-use Rattle.mc_store.proofs.EnteredLemmas.{following_from, following_settled, heard_tried, is_class_lock, pair_tried}
+use Rattle.mc_store.specs.{Accounts.IsClassLock, Accounts.RemovesDead, Passes.CallerView, Sides.ClassSide, Sides.StripeSide, Sides.stripe_told, Full.LacksPlaces, Serving.class_side, Trying.StillBuries}
+use Rattle.mc_store.specs.Locked.{HasBegun, HasBegunCommand, IsHeldClass, IsLockedClass, class_lock}
+use Rattle.mc_store.proofs.EnteredLemmas.{all_from, heard_buried, is_class_lock, pair_buried, removes_settled}
 use Rattle.mc_store.specs.declared.locked.LockedStripe.TheInside as stripes
 use Rattle.mc_store.specs.declared.locked.LockedClass.TheInside as classes
 use Rattle.mc_store.proofs.SyncedStepLemmas.{class_paired, class_told_more, grows_paired, settled_grows, settled_told, short_paired, sight_paired, stripe_paired}
@@ -87,12 +87,15 @@ returns-in_err-done-clause-same g c =
     c.hear.ensures.class c.hear.ensures.told c.hear.ensures.grows (c.learn.ensures.stripe ∙ c.hear-2.ensures.stripe) c.hear-2.ensures.told c.hear-2.ensures.grows longer in
     let held = subst (IsHeldClass g.N.Named.board.table config) (sym lent_is) c.class.invariant.held in
     let of : IsClassLock config lent.owner.lock = subst (IsClassLock config) (sym held.lock_is) (is_class_lock config lent.state.number held.is) in
-    let gains = following_settled lent.state c.settle-done.new.class own.state c.settle-done.new.stripe turn.who c.args.link.number turn.moment c.settle-done.result did.done did.settled did.err in
-    let still = pair_tried config turn c.own.inside.side c.learn.new.stripe own.owner.lock (length own.owner.history) c.settle-done.new.stripe.history lent.owner.lock (length lent.owner.history)
-    c.settle-done.new.class.history own.seen.sight c.catch_up_stripe.ensures.entered c.catch_up_class.ensures.entered (ap (λ (x : StripeSide). x.lock) own_is ∙ c.own.invariant.lock_is) c.own.invariant.of of sight sees
-    (following_from lent.state.history c.settle-done.new.class.history gains lent.owner.history c.class-inside.invariant.0) in
-    let met = subst (λ (x : StripeSide). StillTries config turn x c.learn.new.stripe c.args.caller.now c.catch_up_class.new.self) c.own.view_is still in
-    (search rules, heard_tried config turn c.args.own.now c.meet.new.own c.learn.new.stripe c.meet.ensures.own c.meet.ensures.grows refl met)
+    let link = c.args.link in
+    let number : link.class ≡ lent.state.number = sym c.requires.class ∙ sym (ap (λ (v : ClassView). v.number) (c_is ∙ ap (λ (x : ClassSide). x.class) c.meet.ensures.lent)) in
+    let gains = removes_settled lent.state c.settle-done.new.class own.state c.settle-done.new.stripe turn.who link.number turn.moment c.settle-done.result did.done did.settled did.err in
+    let still = pair_buried config turn c.own.inside.side c.learn.new.stripe link own.owner.lock (length own.owner.history) c.settle-done.new.stripe.history lent.owner.lock (length lent.owner.history)
+    c.settle-done.new.class.history own.seen.sight c.catch_up_stripe.ensures.entered c.catch_up_class.ensures.entered (ap (λ (x : StripeSide). x.lock) own_is ∙ c.own.invariant.lock_is) c.own.invariant.of of
+    (held.lock_is ∙ ap (λ (n : ClassNo). class_lock config n) (sym number)) sight sees
+    (all_from (RemovesDead link.number) lent.state.history c.settle-done.new.class.history gains lent.owner.history c.class-inside.invariant.0) in
+    let met = subst (λ (x : StripeSide). StillBuries config link turn x c.learn.new.stripe c.args.caller.now c.catch_up_class.new.self) c.own.view_is still in
+    (search rules, heard_buried config turn c.args.own.now c.meet.new.own c.learn.new.stripe link c.meet.ensures.own c.meet.ensures.grows refl met)
 
 pub returns-clause-same : goal.returns-clause-same
 returns-clause-same g c =
@@ -119,12 +122,15 @@ returns-clause-same g c =
     c.hear.ensures.class c.hear.ensures.told c.hear.ensures.grows (c.learn.ensures.stripe ∙ c.hear-2.ensures.stripe) c.hear-2.ensures.told c.hear-2.ensures.grows longer in
     let held = subst (IsHeldClass g.N.Named.board.table config) (sym lent_is) c.class.invariant.held in
     let of : IsClassLock config lent.owner.lock = subst (IsClassLock config) (sym held.lock_is) (is_class_lock config lent.state.number held.is) in
-    let gains = following_settled lent.state c.settle-done.new.class own.state c.settle-done.new.stripe turn.who c.args.link.number turn.moment c.settle-done.result did.done did.settled did.err in
-    let still = pair_tried config turn c.own.inside.side c.learn.new.stripe own.owner.lock (length own.owner.history) c.settle-done.new.stripe.history lent.owner.lock (length lent.owner.history)
-    c.settle-done.new.class.history own.seen.sight c.catch_up_stripe.ensures.entered c.catch_up_class.ensures.entered (ap (λ (x : StripeSide). x.lock) own_is ∙ c.own.invariant.lock_is) c.own.invariant.of of sight sees
-    (following_from lent.state.history c.settle-done.new.class.history gains lent.owner.history c.class-inside.invariant.0) in
-    let met = subst (λ (x : StripeSide). StillTries config turn x c.learn.new.stripe c.args.caller.now c.catch_up_class.new.self) c.own.view_is still in
-    (search rules, heard_tried config turn c.args.own.now c.meet.new.own c.learn.new.stripe c.meet.ensures.own c.meet.ensures.grows refl met)
+    let link = c.args.link in
+    let number : link.class ≡ lent.state.number = sym c.requires.class ∙ sym (ap (λ (v : ClassView). v.number) (c_is ∙ ap (λ (x : ClassSide). x.class) c.meet.ensures.lent)) in
+    let gains = removes_settled lent.state c.settle-done.new.class own.state c.settle-done.new.stripe turn.who link.number turn.moment c.settle-done.result did.done did.settled did.err in
+    let still = pair_buried config turn c.own.inside.side c.learn.new.stripe link own.owner.lock (length own.owner.history) c.settle-done.new.stripe.history lent.owner.lock (length lent.owner.history)
+    c.settle-done.new.class.history own.seen.sight c.catch_up_stripe.ensures.entered c.catch_up_class.ensures.entered (ap (λ (x : StripeSide). x.lock) own_is ∙ c.own.invariant.lock_is) c.own.invariant.of of
+    (held.lock_is ∙ ap (λ (n : ClassNo). class_lock config n) (sym number)) sight sees
+    (all_from (RemovesDead link.number) lent.state.history c.settle-done.new.class.history gains lent.owner.history c.class-inside.invariant.0) in
+    let met = subst (λ (x : StripeSide). StillBuries config link turn x c.learn.new.stripe c.args.caller.now c.catch_up_class.new.self) c.own.view_is still in
+    (search rules, heard_buried config turn c.args.own.now c.meet.new.own c.learn.new.stripe link c.meet.ensures.own c.meet.ensures.grows refl met)
 
 pub invariant_of-own : goal.invariant_of-own
 invariant_of-own g c =

@@ -6,7 +6,8 @@ use Rattle.mc_stripe.specs.StripeState.{Stripe}
 use Rattle.mc_board.proofs.{PrefixLemmas.prefix_self, SeenLemmas.list_at_same}
 use Rattle.mc_board.specs.{Histories.Grows, Histories.list_at, Views.OwnerView, Views.SeenView}
 use Rattle.mc_board.specs.declared.rule.Sight.{Sight}
-use Rattle.mc_pull.specs.{Lone.StripeGrows, Rounds.IsRoom, Rounds.rounds, Walker.walker_of}
+use Rattle.std.specs.Prelude.{MatchResult}
+use Rattle.mc_pull.specs.{Broken.BreaksRoom, Lone.StripeGrows, Rounds.IsRoom, Rounds.rounds, Walker.walker_of}
 use Rattle.mc_pull.specs.declared.looking.Answer.{Answer}
 use Rattle.mc_store.specs.{Accounts.stretch_of, Earned.IsSearchInVain, Locked.HasBegunSearch, Locked.IsLockedClass, Locked.class_lock, Serving.IsShortFor, Serving.class_side}
 use Rattle.mc_store.specs.{Sides.ClassSide, Sides.StripeSide, Sides.class_told, Sides.stripe_sight, Sides.stripe_told, Trying.StillSearches}
@@ -28,10 +29,10 @@ pub returns-clause-room : goal.returns-clause-room
 returns-clause-room g c =
     let of : c.side.inside.state ≡ c.args.class.now.class = ap (λ (x : ClassSide). x.class) (c.side.view_is ∙ (c.class.view_is ∙ c.learn_from.ensures.class)) in
     let last : c.hear.new.class.class ≡ c.make_room_with-found.new.class = ap (λ (x : ClassSide). x.class) c.hear.ensures.class in
-    let P : ClassView → ClassView → Bool → Type 0 = λ v w found. (xs : List Answer) × IsRoom (rounds v c.args.task.turn.who c.args.task.turn.moment g.N.Named.config) v.history xs w.history found in
-    ok_more c.make_room_with-found.result _ (P c.args.class.now.class c.hear.new.class.class)
-    (λ found made. subst (λ (w : ClassView). P c.args.class.now.class w found) (sym last) (subst (λ (v : ClassView). P v c.make_room_with-found.new.class found) of made))
-    c.make_room_with-found.ensures.room
+    let P : ClassView → ClassView → Type 0 = λ v w. MatchResult c.make_room_with-found.result
+    (λ found. (xs : List Answer) × IsRoom (rounds v c.args.task.turn.who c.args.task.turn.moment g.N.Named.config) v.history xs w.history found)
+    (λ fault. (xs : List Answer) × BreaksRoom (rounds v c.args.task.turn.who c.args.task.turn.moment g.N.Named.config) v.history xs w.history) in
+    subst (λ (w : ClassView). P c.args.class.now.class w) (sym last) (subst (λ (v : ClassView). P v c.make_room_with-found.new.class) of c.make_room_with-found.ensures.room)
 
 pub returns-clause-leaves : goal.returns-clause-leaves
 returns-clause-leaves g c =

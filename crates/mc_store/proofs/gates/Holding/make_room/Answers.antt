@@ -1,9 +1,9 @@
 use Rattle.std.proofs.Common.{◌≡◌, Bool, List, false, length}
-use Rattle.mc_pull.specs.{Rounds.IsRoom, Rounds.rounds, Walker.walker_of}
+use Rattle.mc_pull.specs.{Broken.BreaksRoom, Rounds.IsRoom, Rounds.rounds, Walker.walker_of}
 use Rattle.mc_pull.specs.declared.looking.Answer.{Answer}
 use Rattle.mc_store.specs.{Earned.IsSearchInVain, Looked.IsOfCall}
 use Rattle.mc_store.proofs.GateLemmas.{grew_itself, no_shorter, ok_more, served_asked, still_unwalked}
-use Rattle.mc_store.proofs.{VisitedStripeLemmas.looked_itself, VisitedStripeLemmas.tried_any, OwnEventLemmas.searches_none}
+use Rattle.mc_store.proofs.{ShortHistoryLemmas.match_more, VisitedStripeLemmas.looked_itself, VisitedStripeLemmas.tried_any, OwnEventLemmas.searches_none}
 use Rattle.mc_store.proofs.gates.Holding.make_room.Goals as goal
 
 pub make_room-requires : goal.make_room-requires
@@ -15,9 +15,10 @@ make_room-requires g c =
 
 pub returns-clause-room : goal.returns-clause-room
 returns-clause-room g c =
-    ok_more c.make_room.result _ (λ (found : Bool). (xs : List Answer) × IsRoom (rounds c.args.class.now c.args.context.turn.who c.args.context.turn.moment c.args.context.config.now) c.args.class.now.history xs
-    c.make_room.new.class.history found)
-    (λ found made. (made.0, made.2)) c.make_room.ensures.room
+    let r = rounds c.args.class.now c.args.context.turn.who c.args.context.turn.moment c.args.context.config.now in
+    let after = c.make_room.new.class.history in
+    match_more c.make_room.result _ (λ (found : Bool). (xs : List Answer) × IsRoom r c.args.class.now.history xs after found) _ ((xs : List Answer) × BreaksRoom r c.args.class.now.history xs after)
+    (λ found made. (made.0, made.2)) (λ broken. (broken.0, broken.2)) c.make_room.ensures.room c.make_room.ensures.err
 
 pub returns-clause-tried : goal.returns-clause-tried
 returns-clause-tried g c =
