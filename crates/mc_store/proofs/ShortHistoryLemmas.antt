@@ -1,6 +1,6 @@
 -- Short histories; and small laws of a step: which fault was answered, what a stripe was made with, where a refusal stands.
 use Rattle.std.proofs.Common.{Result, Ok, Err, refl, sym, ap, ◌∙◌, inl, inr, arith, suc}
-use Rattle.std.specs.Prelude.{ℕ, ◌≡◌, ◌<◌, ◌+◌, ◌⊎◌, ◌++◌, List, [], ◌∷◌, Some, length, IfOk, IsErrAnd, MatchResult, OnErr, slice_get}
+use Rattle.std.specs.Prelude.{ℕ, ◌≡◌, ◌<◌, ◌+◌, ◌⊎◌, ◌++◌, List, [], ◌∷◌, Some, length, IfErr, IfOk, IsErrAnd, MatchResult, OnErr, slice_get}
 use Rattle.mc_item.specs.declared.{answer.Site.Site, config.Config.Config, fault.Fault.Fault, fault.Fault.TheVariants.HistoryFull, item.ClassNo.ClassNo, item.Who.Who}
 use Rattle.mc_item.specs.declared.{class_event.ClassEvent.ClassEvent, event.Event.Event}
 use Rattle.mc_segment.specs.{ClassCalls.Makes, ClassCalls.refused_event, ClassState.ClassView}
@@ -30,6 +30,29 @@ match_err P E f (Err e) gives it = it
 pub match_more : {T : Type 0} (r : Result T Fault) (P Q : T → Type 0) (E F : Type 0) → ((x : T) → P x → Q x) → (E → F) → IfOk r P → OnErr r E → MatchResult r Q (λ fault. F)
 match_more (Ok x) P Q E F more less p e = more x p
 match_more (Err f) P Q E F more less p e = less e
+
+pub match_both : {T : Type 0} (r : Result T Fault) (P Q : T → Type 0) (E F : Fault → Type 0) → ((x : T) → P x → Q x) → ((f : Fault) → E f → F f) → IfOk r P → IfErr r E → MatchResult r Q F
+match_both (Ok x) P Q E F more less p e = more x p
+match_both (Err f) P Q E F more less p e = less f e
+
+-- what holds of each error holds of one that was handed on
+pub match_any : {T : Type 0} (P : T → Type 0) (F : Fault → Type 0) (f : Fault) (r : Result T Fault) → IsErrAnd r (λ x. x ≡ f) → ((e : Fault) → F e) → MatchResult r P F
+match_any P F f (Ok x) gives it = absurd gives
+match_any P F f (Err e) gives it = it e
+
+-- the parts of what is told of both outcomes
+pub match_ok : {T : Type 0} (r : Result T Fault) (P : T → Type 0) (F : Fault → Type 0) → MatchResult r P F → IfOk r P
+match_ok (Ok x) P F it = it
+match_ok (Err f) P F it = tt
+
+pub match_fault : {T : Type 0} (r : Result T Fault) (P : T → Type 0) (F : Fault → Type 0) → MatchResult r P F → IfErr r F
+match_fault (Ok x) P F it = tt
+match_fault (Err f) P F it = it
+
+-- what holds of each error
+pub if_err_any : {T : Type 0} (r : Result T Fault) (F : Fault → Type 0) → ((e : Fault) → F e) → IfErr r F
+if_err_any (Ok x) F it = tt
+if_err_any (Err f) F it = it f
 
 -- a stripe that was made with a configuration is still, whatever it gained
 pub stripe_made : (config : Config) (s s_new : Stripe) → KeepsSite s s_new → IsStripeOf config s → IsStripeOf config s_new

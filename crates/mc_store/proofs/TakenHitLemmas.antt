@@ -1,16 +1,17 @@
 -- Hits that a call takes from a queue, one after the other, and what they make of their class.
-use Rattle.std.proofs.Common.{◌≡◌, ◌≤◌, ◌<◌, ◌+◌, ◌++◌, ◌∷◌, [], ℕ, List, Bool, Result, Ok, Err, refl, sym, ap, ◌∙◌, subst, arith, length, length-append}
-use Rattle.std.specs.Prelude.{IfOk}
+use Rattle.std.proofs.Common.{◌≡◌, ◌≤◌, ◌<◌, ◌+◌, ◌++◌, ◌∷◌, [], ℕ, List, Bool, true, false, Result, Ok, Err, inl, inr, refl, sym, ap, ◌∙◌, subst, arith, length, length-append}
+use Rattle.std.specs.Prelude.{IfOk, MatchResult}
 use Rattle.std.specs.List.{Contains}
 use Rattle.mc_item.specs.declared.{class_event.ClassEvent.ClassEvent, config.Config.Config, counts.Moves.Moves, fault.Fault.Fault, item.Who.Who}
 use Rattle.mc_segment.specs.ClassState.{ClassView}
 use Rattle.mc_hits.specs.Views.{HandsView, hits_at}
 use Rattle.mc_hits.specs.declared.rule.Hit.{Hit}
 use Rattle.mc_stripe.specs.declared.trying.Turn.{Turn}
-use Rattle.mc_pull.specs.{Advance.MovesIf, Growth.GainsEvents, Juggle.IsJuggle, Question.question, Rounds.Rounds, Rounds.rounds}
+use Rattle.mc_pull.specs.Broken.{BreaksJuggle, BreaksRounds, BreaksTemp}
+use Rattle.mc_pull.specs.{Advance.MovesIf, Growth.GainsEvents, Juggle.IsJuggle, Juggle.Juggling, Question.question, Rounds.Rounds, Rounds.rounds}
 use Rattle.mc_pull.specs.declared.looking.Answer.{Answer}
 use Rattle.mc_pull.specs.declared.judge.Judge.TheVariants as judges
-use Rattle.mc_store.specs.Calls.{IsUpkept}
+use Rattle.mc_store.specs.Calls.{IsJuggleCut, IsUpkeepCut, IsUpkept}
 use Rattle.mc_store.specs.Hits.{AreAdvanced, AreTaken, IsAdvancedBy, IsAdvancedTill, Takes, queue_of, with_taking}
 
 -- of the hands that took something nothing else has changed
@@ -109,3 +110,31 @@ upkept_by config old mid new turn hands hands_new (Ok moves) first more by made 
       (subst (λ (h : List ClassEvent). IsJuggle (rounds mid turn.who turn.moment config) mid.history made.0 h moves) more.history_is made.1));
 }
 upkept_by config old mid new turn hands hands_new (Err fault) first more by made = tt
+
+-- juggling that a gate's fault ended is one that any fault ended
+pub breaks_any : (r : Rounds) (Faults : Fault → Type 0) (fault : Fault) (before after : List ClassEvent) (xs : List Answer) → BreaksJuggle r Faults fault before xs after → IsJuggleCut r fault before after
+breaks_any r Faults fault before after xs (inl temp) = (xs, inl (in_temp r.class.rule.temp temp))
+  where
+    in_temp : (used : Bool) → BreaksTemp r Faults fault used before xs after → BreaksTemp r (λ f. Unit {0}) fault used before xs after
+    in_temp false it = it
+    in_temp true (inl refused) = inl refused
+    in_temp true (inr broken) = inr (tt, broken.1)
+breaks_any r Faults fault before after xs (inr rest) =
+    (xs, inr (record { first = rest.first; last = rest.last; between = rest.between; whole = rest.whole; broken = in_rounds rest.between rest.last rest.broken; answers = rest.answers }))
+  where
+    in_rounds : (a : Juggling) (ys : List Answer) → BreaksRounds r Faults fault a ys after → BreaksRounds r (λ f. Unit {0}) fault a ys after
+    in_rounds a ys (inl refused) = inl refused
+    in_rounds a ys (inr broken) = inr (tt, broken.1)
+
+-- the same of hits and rounds, of which a fault ended the rounds
+pub upkept_till : (config : Config) (old mid new : ClassView) (turn : Turn) (hands hands_new : HandsView) (r : Result Moves Fault) → GainsEvents old mid → GainsEvents mid new
+    → IsAdvancedBy (queue_of old.number) turn hands hands_new old.history mid.history
+    → MatchResult r (λ moves. (xs : List Answer) × IsJuggle (rounds mid turn.who turn.moment config) mid.history xs new.history moves)
+    (λ fault. IsJuggleCut (rounds mid turn.who turn.moment config) fault mid.history new.history)
+    → MatchResult r (IsUpkept config old turn hands hands_new new.history) (IsUpkeepCut config old turn hands hands_new new.history)
+upkept_till config old mid new turn hands hands_new (Ok moves) first more by made = upkept_by config old mid new turn hands hands_new (Ok moves) first more by made
+upkept_till config old mid new turn hands hands_new (Err fault) first more by made = inr (
+  mid.history,
+  by,
+  subst (λ (r : Rounds). IsJuggleCut r fault mid.history new.history) (ap (λ (v : ClassView). rounds v turn.who turn.moment config) first.same) made,
+)

@@ -1,5 +1,5 @@
 -- What a call on a store leaves, by what its pass had seen before and has seen after (own).
-use Rattle.std.specs.Prelude.{◌≡◌, ◌++◌, ℕ, List, [], ◌∷◌, IfSome}
+use Rattle.std.specs.Prelude.{◌≡◌, ◌++◌, ◌⊎◌, ℕ, List, [], ◌∷◌, IfSome}
 use mathlib.Core.List.{IsPrefix}
 use Rattle.mc_item.specs.declared.{call_event.CallEvent.CallEvent, class_event.ClassEvent.ClassEvent, command.Command.Command, config.Config.Config}
 use Rattle.mc_item.specs.declared.{
@@ -15,7 +15,7 @@ use Rattle.mc_board.specs.Histories.{list_at}
 use Rattle.mc_board.specs.declared.rule.Sight.{Sight}
 use Rattle.mc_segment.specs.{ClassState.ClassView}
 use Rattle.mc_stripe.specs.{Plan.visible_row, StripeState.Stripe, StripeCalls.KeepsSite}
-use Rattle.mc_pull.specs.{Juggle.IsJuggle, Question.IsClassOf, Question.IsStripeOf, Rounds.rounds}
+use Rattle.mc_pull.specs.{Broken.BreaksJuggle, Juggle.IsJuggle, Question.IsClassOf, Question.IsStripeOf, Rounds.Rounds, Rounds.rounds}
 use Rattle.mc_pull.specs.declared.looking.Answer.{Answer}
 use Rattle.mc_store.specs.{
   Accounts.Enters,
@@ -26,6 +26,7 @@ use Rattle.mc_store.specs.{
   Callers.HasNoneOf,
   Callers.answered_at,
   Callers.asked_for,
+  Callers.juggling_of,
   Earned.IsEarned,
   Searches.EntersOnce,
   Searches.IsSearchUpTo,
@@ -33,7 +34,7 @@ use Rattle.mc_store.specs.{
   Locked.class_lock,
 }
 use Rattle.mc_store.specs.Locked.{setting_of}
-use Rattle.mc_store.specs.{Hits.IsAdvancedBy, Hits.queue_of, Made.HasNoneMadeBy, Passes.PassView, Passes.next_who, Sides.class_told, Sides.stripe_told}
+use Rattle.mc_store.specs.{Hits.IsAdvancedBy, Hits.IsAdvancedTill, Hits.queue_of, Made.HasNoneMadeBy, Passes.PassView, Passes.next_who, Sides.class_told, Sides.stripe_told}
 use Rattle.mc_store.specs.Waking.{MakesActive}
 use Rattle.mc_hits.specs.Views.{HandsView}
 use Rattle.mc_stripe.specs.declared.trying.Turn.{Turn}
@@ -111,6 +112,17 @@ pub record IsUpkept (config : Config) (c : ClassView) (turn : Turn) (hands hands
   pub answers : List Answer
   pub juggle : IsJuggle (rounds c turn.who turn.moment config) (c.history ++ advances) answers ((c.history ++ advances) ++ own) moves
 
+-- a fault ended the rounds of juggling, from one history of the class to another: whole steps, and a beginning of the next
+abbrev pub IsJuggleCut : Rounds → Fault → (before after : List ClassEvent) → Type 0
+IsJuggleCut r fault before after = (xs : List Answer) × BreaksJuggle r (λ f. Unit {0}) fault before xs after
+
+-- the same, but a fault ended it: at a hit, when all hits before it had made their moves, or in the rounds after all hits
+abbrev pub IsUpkeepCut : Config → ClassView → Turn → (hands hands_new : HandsView) → List ClassEvent → Fault → Type 0
+IsUpkeepCut config c turn hands hands_new history_new fault =
+    IsAdvancedTill (queue_of c.number) turn hands hands_new c.history history_new
+    ⊎ ((advanced : List ClassEvent) × IsAdvancedBy (queue_of c.number) turn hands hands_new c.history advanced
+    × IsJuggleCut (rounds c turn.who turn.moment config) fault advanced history_new)
+
 -- a class was juggled, after all that the pass had seen of it and what other calls made
 pub record IsJuggledBy (config : Config) (class : ClassNo) (before after : PassView) (moment : ℕ) (moves : Moves) : Type 0 where
   pub old : ClassView
@@ -118,6 +130,15 @@ pub record IsJuggledBy (config : Config) (class : ClassNo) (before after : PassV
   pub grew : IsSeenGrowOf config class before.sight after.sight old history_new
   pub first : HasNoneMadeBy (next_who before) old.history
   pub upkept : IsUpkept config old (record { who = next_who before; moment = moment }) before.hands after.hands history_new moves
+
+-- the same, but a fault ended it, and the call was noted
+pub record IsJuggledTill (config : Config) (class : ClassNo) (before after : PassView) (moment : ℕ) (fault : Fault) : Type 0 where
+  pub old : ClassView
+  pub history_new : List ClassEvent
+  pub grew : IsSeenGrowOf config class before.sight after.sight old history_new
+  pub first : HasNoneMadeBy (next_who before) old.history
+  pub cut : IsUpkeepCut config old (record { who = next_who before; moment = moment }) before.hands after.hands history_new fault
+  pub noted : after.calls ≡ before.calls ++ juggling_of class moment ∷ []
 
 -- a call gave a class's history these events and no other, after all that the pass had seen of the class and what other calls made
 pub record HasGained (config : Config) (class : ClassNo) (before after : Sight) (who : Who) (events : List ClassEvent) : Type 0 where

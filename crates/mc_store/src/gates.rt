@@ -3,7 +3,7 @@ ghost use Rattle.std.specs.Prelude.{◌≡◌, ◌≢◌, ◌≤◌, ◌+◌, Li
 ghost use Rattle.mc_pull.specs.{Broken.BreaksRoom, Growth.GainsEvents, Growth.GainsFor, Juggle.IsJuggle, Rounds.IsRoom, Rounds.rounds_by};
 ghost use Rattle.mc_pull.specs.Walker.{walker_by};
 ghost use Rattle.mc_pull.specs.declared.looking.Answer.{Answer};
-ghost use Rattle.mc_store.specs.{Earned.IsSearchInVain, Looked.IsOfCall, Serving.MayFailSeen};
+ghost use Rattle.mc_store.specs.{Calls.IsJuggleCut, Earned.IsSearchInVain, Looked.IsOfCall, Serving.MayFailSeen};
 ghost use Rattle.mc_store.specs.Walking.{LeavesSearch, LeavesTokens, MayTry, StillWalks, StillWalksFrom};
 
 use crate::caller::Caller;
@@ -58,7 +58,9 @@ impl<'a, N: Named> Trying<'a, N> {
     ) -> Result<Moves, Fault>
         requires gate { MayTry N.board.table N.config context self.old.caller.now self.old.owner.now self.old.seen.now class.old self.old.who
             self.old.moment }
-        ensures juggle { IfOk result (λ moves. (xs : List Answer) × IsJuggle (rounds_by class.old context.entry) class.old.history xs class.new.history moves) }
+        ensures juggle { MatchResult result
+            (λ moves. (xs : List Answer) × IsJuggle (rounds_by class.old context.entry) class.old.history xs class.new.history moves)
+            (λ fault. IsJuggleCut (rounds_by class.old context.entry) fault class.old.history class.new.history) }
         ensures few { IfOk result (λ moves. moves.reclaimed + moves.moved ≤ 10000) }
         ensures gains { GainsFor false class.old class.new }
         ensures fault { IfErr result (MayFailSeen N.config self.new.seen.now.sight class.new) }

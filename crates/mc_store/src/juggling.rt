@@ -1,9 +1,9 @@
 //! Juggling a class that threads share, which is the LRU maintainer's work.
-ghost use Rattle.std.specs.Prelude.{◌≡◌, ◌≤◌, ◌⊎◌, ◌+◌, ◌-◌, IfOk, OnOk, IsErrOf, ◌++◌, ◌∷◌, [], OnErr, length};
+ghost use Rattle.std.specs.Prelude.{◌≡◌, ◌≤◌, ◌⊎◌, ◌+◌, ◌-◌, IfErr, IfOk, OnOk, IsErrOf, ◌++◌, ◌∷◌, [], length};
 ghost use Rattle.mc_item.specs.declared.fault.Fault.TheVariants.{HistoryFull};
 ghost use Rattle.mc_evidence.specs.Setting.{IsClass};
 ghost use Rattle.mc_store.specs.Accounts.{Enters, IsOfWalk};
-ghost use Rattle.mc_store.specs.{Callers.juggling_of, Callers.turns_of, Calls.IsJuggledBy, Hits.Takes, Hits.queue_of, Locked.setting_of, Serving.IsShortFor};
+ghost use Rattle.mc_store.specs.{Callers.juggling_of, Callers.turns_of, Calls.IsJuggledBy, Calls.IsJuggledTill, Hits.Takes, Hits.queue_of, Locked.setting_of, Serving.IsShortFor};
 ghost use Rattle.mc_store.specs.Serving.{IsLater};
 
 use crate::named::Named;
@@ -39,7 +39,7 @@ impl<N: Named> Store<N> {
         ensures grows { IsLater pass.old.sight pass.new.sight }
         ensures caller { pass.new.caller ≡ pass.old.caller }
         ensures calls { OnOk result (pass.new.calls ≡ pass.old.calls ++ juggling_of class moment ∷ []) }
-        ensures cut { OnErr result ((pass.new ≡ pass.old) ⊎ (pass.new.calls ≡ pass.old.calls ++ juggling_of class moment ∷ [])) }
+        ensures cut { IfErr result (λ fault. (pass.new ≡ pass.old) ⊎ IsJuggledTill N.config class pass.old pass.new moment fault) }
         ensures turn { (pass.new.turn ≡ length (turns_of pass.new.calls)) × OnOk result (pass.new.turn ≡ pass.old.turn + 1) }
         ensures full { IsErrOf result HistoryFull → IsShortFor N.config class pass.new.sight ⊎ (N.config.max_events ≤ pass.old.turn) }
         ensures account { Enters (IsOfWalk N.config class) pass.old.turn pass.new.sight pass.old.made pass.new.made }

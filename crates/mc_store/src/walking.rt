@@ -10,6 +10,7 @@ ghost use Rattle.mc_store.specs.{
   Accounts.IsOfWalk,
   Accounts.StillCalls,
   Callers.juggling_of,
+  Calls.IsJuggleCut,
   Earned.IsSearchInVain,
   Full.LacksPlaces,
   Serving.IsShortFor,
@@ -132,8 +133,11 @@ pub(crate) fn juggle_under<N: Named>(
 ) -> Result<Moves, Fault>
     requires begun { HasBegunAs N.config class.old.sight call.turn.who call.turn.moment (juggling_of class.old.class.number call.turn.moment) }
     requires caller { call.turn.who.caller ≡ caller.old.number }
-    ensures juggle { IfOk result (λ moves. (xs : List Answer) × IsJuggle (rounds class.old.class call.entry.turn.who call.entry.turn.moment N.config)
-        class.old.class.history xs class.new.class.history moves) }
+    ensures juggle { MatchResult result
+        (λ moves. (xs : List Answer) × IsJuggle (rounds class.old.class call.entry.turn.who call.entry.turn.moment N.config) class.old.class.history xs
+        class.new.class.history moves)
+        (λ fault. IsJuggleCut (rounds class.old.class call.entry.turn.who call.entry.turn.moment N.config) fault class.old.class.history
+        class.new.class.history) }
     ensures few { IfOk result (λ moves. moves.reclaimed + moves.moved ≤ 10000) }
     ensures class { classes.GainsEvents class.old.class class.new.class }
     ensures still { StillCalls (IsOfWalk N.config class.old.class.number) call.entry.turn.who.turn (class_sight N.config class.old)

@@ -1,15 +1,20 @@
-use Rattle.std.proofs.Common.{ap, subst, sym, ◌∙◌}
+use Rattle.std.proofs.Common.{ap, inl, subst, sym, ◌∙◌}
 use Rattle.mc_item.specs.declared.item.ClassNo.{ClassNo}
 use Rattle.mc_segment.specs.ClassState.{ClassView}
-use Rattle.mc_store.specs.{Accounts.IsOfWalk, Accounts.StillCalls, Hits.queue_of, Walking.class_sight}
+use Rattle.mc_store.specs.{Calls.IsUpkeepCut, Accounts.IsOfWalk, Accounts.StillCalls, Hits.queue_of, Walking.class_sight}
 use Rattle.mc_store.proofs.AccountLemmas.{still_both}
-use Rattle.mc_store.proofs.TakenHitLemmas.{takes_all, takes_cut, upkept_by}
+use Rattle.mc_store.proofs.{ShortHistoryLemmas.match_any, TakenHitLemmas.takes_all, TakenHitLemmas.takes_cut, TakenHitLemmas.upkept_till}
 use Rattle.mc_store.proofs.taking.upkeep_under.Goals as goal
 
 pub returns-clause-upkept : goal.returns-clause-upkept
 returns-clause-upkept g c =
-    upkept_by g.N.Named.config c.args.class.now.class c.advance_hits.new.class.class c.juggle_under.new.class.class c.args.call.turn c.args.hands.now c.advance_hits.new.hands c.juggle_under.result
+    upkept_till g.N.Named.config c.args.class.now.class c.advance_hits.new.class.class c.juggle_under.new.class.class c.args.call.turn c.args.hands.now c.advance_hits.new.hands c.juggle_under.result
     c.advance_hits.ensures.class c.juggle_under.ensures.class c.in_ok-advance_hits.ensures.advanced c.juggle_under.ensures.juggle
+
+pub returns-in_err-advance_hits-clause-upkept : goal.returns-in_err-advance_hits-clause-upkept
+returns-in_err-advance_hits-clause-upkept g c =
+    match_any _ (IsUpkeepCut g.N.Named.config c.args.class.now.class c.args.call.turn c.args.hands.now c.advance_hits.new.hands c.advance_hits.new.class.class.history) c.in_err-advance_hits.field-0.0
+    c.from_residual.result c.from_residual.ensures.1 (λ e. inl c.in_err-advance_hits.ensures.cut)
 
 pub returns-clause-taken : goal.returns-clause-taken
 returns-clause-taken g c =

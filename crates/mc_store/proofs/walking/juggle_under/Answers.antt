@@ -1,10 +1,11 @@
 use Rattle.std.proofs.Common.{rules, ◌≡◌, List, ap, ◌∙◌, subst, sym}
-use Rattle.mc_item.specs.declared.{config.Config.Config, counts.Moves.Moves}
+use Rattle.std.specs.Prelude.{MatchResult}
+use Rattle.mc_item.specs.declared.{config.Config.Config}
 use Rattle.mc_segment.specs.ClassState.{ClassView}
 use Rattle.mc_pull.specs.{Juggle.IsJuggle, Rounds.rounds}
 use Rattle.mc_pull.specs.declared.looking.Answer.{Answer}
-use Rattle.mc_store.specs.{Callers.juggling_of, Locked.HasBegunAs, Locked.IsLockedClass, Serving.class_side, Sides.ClassSide}
-use Rattle.mc_store.proofs.{CallerLemmas.begun_as_sees, GateLemmas.ok_more, GateLemmas.still_under, OwnEventLemmas.locked_gains, OwnEventLemmas.none_own, OwnEventLemmas.of_juggling}
+use Rattle.mc_store.specs.{Callers.juggling_of, Calls.IsJuggleCut, Locked.HasBegunAs, Locked.IsLockedClass, Serving.class_side, Sides.ClassSide}
+use Rattle.mc_store.proofs.{CallerLemmas.begun_as_sees, GateLemmas.still_under, OwnEventLemmas.locked_gains, OwnEventLemmas.none_own, OwnEventLemmas.of_juggling}
 use Rattle.mc_store.proofs.OwnCallLemmas.{may_try_whole}
 use Rattle.mc_store.proofs.walking.juggle_under.Goals as goal
 
@@ -12,10 +13,12 @@ pub returns-clause-juggle : goal.returns-clause-juggle
 returns-clause-juggle g c =
     let of : c.side.inside.state ≡ c.args.class.now.class = ap (λ (x : ClassSide). x.class) (c.side.view_is ∙ c.class.view_is) in
     let with : c.store.inside.config ≡ g.N.Named.config = c.store.invariant.1 in
-    let P : ClassView → Config → Moves → Type 0 = λ v config moves. (xs : List Answer) × IsJuggle (rounds v c.args.call.turn.who c.args.call.turn.moment config) v.history xs c.juggle.new.class.history moves in
-    ok_more c.juggle.result _ (P c.args.class.now.class g.N.Named.config)
-    (λ moves made. subst (λ (v : ClassView). P v g.N.Named.config moves) of (subst (λ (config : Config). P c.side.inside.state config moves) with made))
-    c.juggle.ensures.juggle
+    let turn = c.args.call.turn in
+    let after = c.juggle.new.class.history in
+    let P : ClassView → Config → Type 0 = λ v config. MatchResult c.juggle.result
+    (λ moves. (xs : List Answer) × IsJuggle (rounds v turn.who turn.moment config) v.history xs after moves)
+    (λ fault. IsJuggleCut (rounds v turn.who turn.moment config) fault v.history after) in
+    subst (λ (v : ClassView). P v g.N.Named.config) of (subst (P c.side.inside.state) with c.juggle.ensures.juggle)
 
 pub juggle-requires : goal.juggle-requires
 juggle-requires g c =

@@ -1,9 +1,11 @@
 use Rattle.std.proofs.Common.{List, drop, length, refl, sym, ap, ◌∙◌, subst}
-use Rattle.mc_item.specs.declared.counts.Moves.{Moves}
+use Rattle.mc_item.specs.declared.{counts.Moves.Moves, fault.Fault.Fault}
 use Rattle.mc_pull.specs.{Juggle.IsJuggle, Rounds.rounds}
 use Rattle.mc_pull.specs.declared.looking.Answer.{Answer}
 use Rattle.mc_store.proofs.{AccountLemmas.still_anywhere, GateLemmas.no_shorter}
-use Rattle.mc_store.proofs.GateLemmas.{ok_more, served_asked, served_room, served_survey, still_caught_up, still_surveyed, still_unwalked}
+use Rattle.mc_store.specs.{Calls.IsJuggleCut, Serving.MayFailSeen}
+use Rattle.mc_store.proofs.{ShortHistoryLemmas.match_both, TakenHitLemmas.breaks_any}
+use Rattle.mc_store.proofs.GateLemmas.{served_asked, served_room, served_survey, still_caught_up, still_surveyed, still_unwalked}
 use Rattle.mc_store.proofs.OwnEventLemmas.{walks_none, walks_survey}
 use Rattle.mc_item.specs.declared.item.Who.{Who}
 use Rattle.mc_board.specs.{Accounts.AreBy, Views.OwnerView}
@@ -37,9 +39,11 @@ juggle-moves-requires g c =
 
 pub returns-clause-juggle : goal.returns-clause-juggle
 returns-clause-juggle g c =
-    ok_more c.juggle-moves.result _ (λ (moves : Moves). (xs : List Answer) × IsJuggle (rounds c.args.class.now c.args.context.turn.who c.args.context.turn.moment c.args.context.config.now) c.args.class.now.history xs
-    c.juggle-moves.new.class.history moves)
-    (λ moves made. (made.0, made.2)) c.juggle-moves.ensures.juggle
+    let r = rounds c.args.class.now c.args.context.turn.who c.args.context.turn.moment c.args.context.config.now in
+    let before = c.args.class.now.history in
+    let after = c.juggle-moves.new.class.history in
+    match_both c.juggle-moves.result _ (λ (moves : Moves). (xs : List Answer) × IsJuggle r before xs after moves) _ (λ (fault : Fault). IsJuggleCut r fault before after) (λ moves made. (made.0, made.2))
+    (λ fault broken. breaks_any r (MayFailSeen g.N.Named.config c.juggle-moves.new.gate.seen.now.sight c.juggle-moves.new.class) fault before after broken.0 broken.2) c.juggle-moves.ensures.juggle c.juggle-moves.ensures.err
 
 pub catch_up_class-requires-clause-by : goal.catch_up_class-requires-clause-by
 catch_up_class-requires-clause-by g c =

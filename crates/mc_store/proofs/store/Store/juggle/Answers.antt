@@ -1,5 +1,5 @@
-use Rattle.std.proofs.Common.{◌≡◌, ap, ◌∙◌, inl, length, List, subst, sym, refl}
-use Rattle.std.specs.Prelude.{IfOk}
+use Rattle.std.proofs.Common.{◌≡◌, ◌++◌, ◌∷◌, [], ap, ◌∙◌, inl, length, List, subst, sym, refl}
+use Rattle.std.specs.Prelude.{MatchResult}
 use Rattle.mc_item.specs.declared.{call_event.CallEvent.CallEvent, item.Who.Who, item.ClassNo.ClassNo}
 use Rattle.mc_board.specs.{Histories.Grows, Histories.list_at, Views.SeenView}
 use Rattle.mc_evidence.specs.Setting.{IsClass}
@@ -7,12 +7,13 @@ use Rattle.mc_board.specs.declared.rule.Sight.{Sight}
 use Rattle.mc_segment.specs.ClassState.{ClassView}
 use Rattle.mc_pull.specs.Growth as classes
 use Rattle.mc_hits.specs.{Rule.AreBefore, Views.HandsView}
-use Rattle.mc_store.specs.{Calls.IsUpkept, Finals.IsBehindAt, Locked.HasBegunAs, Locked.IsHeldClass, Sides.ClassSide, Sides.class_told, Callers.juggling_of}
+use Rattle.mc_store.specs.{Calls.IsUpkeepCut, Calls.IsUpkept, Finals.IsBehindAt, Locked.HasBegunAs, Locked.IsHeldClass, Sides.ClassSide, Sides.class_told, Callers.juggling_of}
 use Rattle.mc_evidence.specs.Seen.{stripes_seen}
 use Rattle.mc_store.proofs.{AccountLemmas.enters_in, AccountLemmas.enters_later, AccountLemmas.enters_same, CallerLemmas.on_ok_always, PlacedLemmas.placed_same, PlacedLemmas.placed_sees}
 use Rattle.mc_store.specs.{Accounts.IsOfWalk, Accounts.StillCalls, Callers.placed_in, Callers.turns_of, Made.HasNoneMadeBy, Passes.next_who, Hits.Takes, Hits.queue_of, Locked.setting_of}
 use Rattle.mc_store.specs.{Passes.CallerView, Passes.PassView, Passes.HasCalled, Passes.caller_of, Walking.class_sight}
-use Rattle.mc_store.proofs.{GrownClassLemmas.class_shared, GrownClassLemmas.fails_full, GrownClassLemmas.juggled_so, SeenStripeLemmas.called_now, TakenHitLemmas.takes_none}
+use Rattle.mc_store.proofs.{GrownClassLemmas.class_shared, GrownClassLemmas.fails_full, GrownClassLemmas.juggled_so, GrownClassLemmas.juggled_till, SeenStripeLemmas.called_now, TakenHitLemmas.takes_none}
+use Rattle.mc_store.proofs.ShortHistoryLemmas.{if_err_any, match_fault, match_ok}
 use Rattle.mc_store.proofs.store.Store.juggle.Goals as goal
 
 pub returns-clause-juggled : goal.returns-clause-juggled
@@ -36,14 +37,52 @@ returns-clause-juggled g c =
     let all : Grows new.sight c.share.new.seen.sight = subst (λ (x : ClassSide). Grows x.sight c.share.new.seen.sight) c.own-2.view_is c.share.ensures.all in
     let hands : c.pass.inside.hands ≡ c.args.pass.now.hands = ap (λ (v : PassView). v.hands) (c.pass.view_is ∙ c.in_ok-who.ensures.took.turn) in
     let r = c.upkeep_under-moves.result in
-    let made = subst (λ (who : Who). IfOk r (IsUpkept config old.class (record { who = who; moment = c.args.moment }) c.args.pass.now.hands c.upkeep_under-moves.new.hands new.class.history)) c.in_ok-who.ensures.took.who
-    (subst (λ (h : HandsView). IfOk r (IsUpkept config old.class (record { who = c.in_ok-who.who; moment = c.args.moment }) h c.upkeep_under-moves.new.hands new.class.history)) hands
-    (subst (λ (v : ClassView). IfOk r (IsUpkept config v (record { who = c.in_ok-who.who; moment = c.args.moment }) c.pass.inside.hands c.upkeep_under-moves.new.hands new.class.history)) cls
-    c.upkeep_under-moves.ensures.upkept)) in
+    let P : ClassView → HandsView → Who → Type 0 = λ v h who. MatchResult r
+    (IsUpkept config v (record { who = who; moment = c.args.moment }) h c.upkeep_under-moves.new.hands new.class.history)
+    (IsUpkeepCut config v (record { who = who; moment = c.args.moment }) h c.upkeep_under-moves.new.hands new.class.history) in
+    let made = subst (P old.class c.args.pass.now.hands) c.in_ok-who.ensures.took.who
+    (subst (λ (h : HandsView). P old.class h c.in_ok-who.who) hands (subst (λ (v : ClassView). P v c.pass.inside.hands c.in_ok-who.who) cls c.upkeep_under-moves.ensures.upkept)) in
     let first = subst (λ (x : ClassSide). HasNoneMadeBy (next_who c.args.pass.now) x.class.history)
     (sym (same ∙ (c.own.view_is ∙ c.in_ok-who.ensures.class))) c.in_ok-who.ensures.first in
     juggled_so table config c.args.class c.args.pass.now.sight c.share.new.seen.sight old new old_kept new_kept number grows behind told all
-    c.args.pass.now _ c.args.moment r first refl refl made
+    c.args.pass.now _ c.args.moment r first refl refl (match_ok r _ _ made)
+
+pub returns-clause-cut : goal.returns-clause-cut
+returns-clause-cut g c =
+    let config = g.N.Named.config in
+    let table = g.N.Named.board.table in
+    let old = c.compare.new.self in
+    let same : old ≡ c.own.inside.side = c.compare.ensures.same.0 in
+    let old_kept : IsHeldClass table config old = subst (IsHeldClass table config) (sym same) c.own.invariant.held in
+    let new = c.upkeep_under-moves.new.class in
+    let new_kept : IsHeldClass table config new = subst (IsHeldClass table config) c.own-2.view_is c.own-2.invariant.held in
+    let cls : c.tell_class.new.class.class ≡ old.class = ap (λ (x : ClassSide). x.class) c.tell_class.ensures.class in
+    let grows = subst (λ (v : ClassView). classes.GainsEvents v new.class) cls c.upkeep_under-moves.ensures.class in
+    let number : old.class.number ≡ c.args.class = ap (λ (x : ClassSide). x.class.number) (same ∙ (c.own.view_is ∙ (c.in_ok-who.ensures.class ∙ c.deref_mut-own.ensures.value))) ∙ c.lock_class-guard.ensures in
+    let sight : c.pass.inside.seen.sight ≡ c.args.pass.now.sight = ap (λ (v : PassView). v.sight) (c.pass.view_is ∙ c.in_ok-who.ensures.took.turn) in
+    let behind : IsBehindAt c.args.pass.now.sight old.lock (class_told old.class.history) =
+    subst (λ (t : Sight). IsBehindAt t old.lock (class_told old.class.history)) sight
+    (subst (λ (x : ClassSide). IsBehindAt c.pass.inside.seen.sight x.lock (class_told x.class.history)) (sym same) c.compare.ensures.behind) in
+    let told : list_at c.share.new.seen.sight.seen new.lock ≡ class_told new.class.history =
+    subst (λ (x : ClassSide). list_at c.share.new.seen.sight.seen x.lock ≡ class_told x.class.history) c.own-2.view_is c.share.ensures.told in
+    let all : Grows new.sight c.share.new.seen.sight = subst (λ (x : ClassSide). Grows x.sight c.share.new.seen.sight) c.own-2.view_is c.share.ensures.all in
+    let hands : c.pass.inside.hands ≡ c.args.pass.now.hands = ap (λ (v : PassView). v.hands) (c.pass.view_is ∙ c.in_ok-who.ensures.took.turn) in
+    let r = c.upkeep_under-moves.result in
+    let P : ClassView → HandsView → Who → Type 0 = λ v h who. MatchResult r
+    (IsUpkept config v (record { who = who; moment = c.args.moment }) h c.upkeep_under-moves.new.hands new.class.history)
+    (IsUpkeepCut config v (record { who = who; moment = c.args.moment }) h c.upkeep_under-moves.new.hands new.class.history) in
+    let made = subst (P old.class c.args.pass.now.hands) c.in_ok-who.ensures.took.who
+    (subst (λ (h : HandsView). P old.class h c.in_ok-who.who) hands (subst (λ (v : ClassView). P v c.pass.inside.hands c.in_ok-who.who) cls c.upkeep_under-moves.ensures.upkept)) in
+    let first = subst (λ (x : ClassSide). HasNoneMadeBy (next_who c.args.pass.now) x.class.history)
+    (sym (same ∙ (c.own.view_is ∙ c.in_ok-who.ensures.class))) c.in_ok-who.ensures.first in
+    let calls : c.upkeep_under-moves.new.caller.calls ≡ c.args.pass.now.calls ++ juggling_of c.args.class c.args.moment ∷ [] =
+    c.upkeep_under-moves.ensures.still.calls_are
+    ∙ (ap (λ (k : CallerView). k.calls) c.tell_class.ensures.same ∙ ap (λ (p : PassView). p.calls) (c.pass.view_is ∙ c.in_ok-who.ensures.took.turn)) in
+    juggled_till table config c.args.class c.args.pass.now.sight c.share.new.seen.sight old new old_kept new_kept number grows behind told all
+    c.args.pass.now _ c.args.moment r first refl refl calls (match_fault r _ _ made)
+
+pub returns-in_err-who-clause-cut : goal.returns-in_err-who-clause-cut
+returns-in_err-who-clause-cut g c = if_err_any c.from_residual.result _ (λ fault. inl c.in_err-who.ensures.err)
 
 pub returns-clause-full : goal.returns-clause-full
 returns-clause-full g c = λ is.
