@@ -1,21 +1,23 @@
 -- What a pass has seen of a crawl adds up.
-use Rattle.std.proofs.Common.{◌≡◌, ◌+◌, ℕ, List, [], ◌∷◌, ◌++◌, Result, Ok, Err, refl, sym, ap, ◌∙◌, subst, inl, inr, arith, length, append_assoc}
-use Rattle.std.specs.Prelude.{OnOk}
+use Rattle.std.proofs.Common.{◌≡◌, ◌+◌, ℕ, List, [], ◌∷◌, ◌++◌, Result, Ok, Err, refl, sym, ap, ◌∙◌, subst, inl, inr, arith, length, append_assoc, zero, suc, Option, slice_get}
+use Rattle.std.specs.Prelude.{IsSomeAnd, OnOk}
 use mathlib.Core.List.{IsPrefix}
 use Rattle.mc_item.specs.declared.{class_event.ClassEvent.ClassEvent, config.Config.Config, counts.Histogram.Histogram, event.Event.Event}
 use Rattle.mc_item.specs.declared.{event.Event.TheVariants.Call, event.Event.TheVariants.Class, event.Event.TheVariants.Stripe, fault.Fault.Fault}
 use Rattle.mc_item.specs.declared.{item.ClassNo.ClassNo, item.Link.Link, item.Who.Who}
 use Rattle.mc_item.specs.Counts.{no_counts}
 use Rattle.mc_board.specs.Histories.{Grows, list_at}
-use Rattle.mc_board.specs.declared.rule.Sight.{Sight}
+use Rattle.mc_board.specs.declared.{rule.Sight.Sight, rule.Span.Span}
 use Rattle.mc_rule.specs.Lists.{count_of, lists_of}
-use Rattle.mc_board.proofs.PrefixLemmas.{prefix_self, prefix_trans}
+use Rattle.mc_board.proofs.{AccountLemmas.get_last, PrefixLemmas.prefix_self, PrefixLemmas.prefix_trans}
 use Rattle.mc_segment.specs.ClassState.{ClassView, opened}
 use Rattle.mc_pull.specs.declared.looking.Answer.{Answer}
 use Rattle.mc_crawl.specs.{Crawl.AreReclaims, Crawl.HasCounted, Crawl.Reclaims, Crawl.crawl, CrawlCount.IsBalanced, Snapshot.links_of}
 use Rattle.mc_stripe.specs.declared.trying.Turn.{Turn}
-use Rattle.mc_store.specs.{Calls.IsSeenGrowOf, Locked.class_lock, Sides.class_told}
+use Rattle.mc_store.specs.{Accounts.Enters, Accounts.IsOfStretch, Accounts.IsOfStretches, Accounts.IsWithin, Accounts.Stretch, Accounts.stretch_of, Calls.IsSeenGrowOf, Locked.class_lock}
+use Rattle.mc_store.specs.{Passes.PassView, Passes.next_who, Sides.class_told}
 use Rattle.mc_store.specs.Crawls.{AreLinksCounted, CountsLink, CountsOne, HasCountedLink, HasReclaims, IsCrawledBy, IsLinkCounted, IsSeenSound, IsSnapshot, ShowsReclaims}
+use Rattle.mc_store.proofs.AccountLemmas.{enters_both, enters_later, enters_more, enters_same}
 use Rattle.mc_store.proofs.SyncedStepLemmas.{map_append}
 
 -- at least none is there
@@ -123,7 +125,7 @@ counts_one config c c_new turn link xs ys h h_new (Err f) made = tt
 
 -- a link was counted under the lock
 pub link_counted : (config : Config) (class : ClassNo) (before after : Sight) (who : Who) (moment : ℕ) (link : Link) (h h_new : Histogram) (c c_new : ClassView) → IsSeenGrowOf config class before after c c_new.history
-    → CountsLink config c c_new who moment link h h_new → IsLinkCounted config class (list_at before.seen (class_lock config class)) (list_at after.seen (class_lock config class)) who moment link h h_new
+    → CountsLink config c c_new who moment link h h_new → IsLinkCounted config class (list_at before.seen (class_lock config class)) (list_at after.seen (class_lock config class)) who moment link (stretch_of c c_new) h h_new
 link_counted config class before after who moment link h h_new c c_new grew counts = record {
   old = c;
   new = c_new;
@@ -131,56 +133,113 @@ link_counted config class before after who moment link h h_new c c_new grew coun
   number_is = grew.number_is;
   begins = grew.seen;
   now = grew.now;
+  stretch_is = refl;
   counted = counts;
 }
 
 -- and the pass has come to see what was reclaimed
 pub link_seen : (config : Config) (class : ClassNo) (before after : Sight) (turn : Turn) (link : Link) (h h_new : Histogram) (c c_new : ClassView) → IsSeenGrowOf config class before after c c_new.history
-    → CountsOne config c c_new turn link h h_new → HasCountedLink config class before after turn link h h_new
+    → CountsOne config c c_new turn link h h_new → HasCountedLink config class before after turn link (stretch_of c c_new) h h_new
 link_seen config class before after turn link h h_new c c_new grew made = record {
   seen = made.seen;
   reclaims = shows_one config class before after turn.who turn.moment h.reclaimed h_new.reclaimed c.history c_new.history grew.seen grew.now made.reclaims;
   counted = link_counted config class before after turn.who turn.moment link h h_new c c_new grew made.counted;
 }
 
--- one link more was counted
-pub links_counted-more : (config : Config) (class : ClassNo) (a b c : List Event) (who : Who) (moment : ℕ) (links : List Link) (link : Link) (h m n : Histogram) → AreLinksCounted config class a b who moment links h m
-    → IsLinkCounted config class b c who moment link m n → AreLinksCounted config class a c who moment (links ++ link ∷ []) h n
-links_counted-more config class a b c who moment [] link h m n none one =
-    (c, n, subst (λ (x : Histogram). IsLinkCounted config class a c who moment link x n) none.1 (subst (λ (l : List Event). IsLinkCounted config class l c who moment link m n) none.0 one), (refl, refl))
-links_counted-more config class a b c who moment (l ∷ links) link h m n some one = (some.0, some.1, some.2, links_counted-more config class some.0 b c who moment links link some.1 m n some.3 one)
+-- what a link's crawl entered, by the names that class and account have outside the lock, once more was seen
+pub link_entered : (config : Config) (class : ClassNo) (turn : ℕ) {mid after : Sight} (told c c_new : ClassView) (made made_is made_new : List Span) → told ≡ c → c.number ≡ class → made ≡ made_is → Grows mid after
+    → Enters (IsOfStretch config told.number (stretch_of told c_new)) turn mid made made_new → Enters (IsOfStretch config class (stretch_of c c_new)) turn after made_is made_new
+link_entered config class turn {mid = mid} {after = after} told c c_new made made_is made_new of number from grows enters =
+    let Suits = IsOfStretch config class (stretch_of c c_new) in
+    enters_later Suits turn {mid = mid} {after = after} made_is made_new grows
+    (subst (λ (m : List Span). Enters Suits turn mid m made_new) from
+    (subst (λ (n : ClassNo). Enters (IsOfStretch config n (stretch_of c c_new)) turn mid made made_new) number
+    (subst (λ (v : ClassView). Enters (IsOfStretch config v.number (stretch_of v c_new)) turn mid made made_new) of enters)))
 
--- of a snapshot's links the first ones were counted
-pub record CountsSoFar (config : Config) (class : ClassNo) (before after : Sight) (who : Who) (moment : ℕ) (links done : List Link) (histogram : Histogram) : Type 0 where
-  pub snapshot : IsSnapshot config class before after (length links)
+-- a place that is in one of some stretches is in one of them and another
+within_longer : (stretches : List Stretch) (stretch : Stretch) (place k : ℕ) → IsSomeAnd (slice_get stretches k) (λ s. IsWithin s place)
+    → IsSomeAnd (slice_get (stretches ++ stretch ∷ []) k) (λ s. IsWithin s place)
+within_longer [] stretch place k within = absurd within
+within_longer (s ∷ stretches) stretch place zero within = within
+within_longer (s ∷ stretches) stretch place (suc k) within = within_longer stretches stretch place k within
+
+-- what may be made in some stretches may be made in them and another
+in_longer : (config : Config) (class : ClassNo) (stretches : List Stretch) (stretch : Stretch) (lock place : ℕ) (event : Event) → IsOfStretches config class stretches lock place event
+    → IsOfStretches config class (stretches ++ stretch ∷ []) lock place event
+in_longer config class stretches stretch lock place event (inl it) = inl (it.0, (it.1.0, within_longer stretches stretch place it.1.0 it.1.1))
+in_longer config class stretches stretch lock place event (inr it) = inr it
+
+-- what may be made in a stretch may be made in others and it
+in_last : (config : Config) (class : ClassNo) (stretches : List Stretch) (stretch : Stretch) (lock place : ℕ) (event : Event) → IsOfStretch config class stretch lock place event
+    → IsOfStretches config class (stretches ++ stretch ∷ []) lock place event
+in_last config class stretches stretch lock place event (inl it) =
+    inl (it.0, (length stretches, subst (λ (o : Option Stretch). IsSomeAnd o (λ s. IsWithin s place)) (sym (get_last stretches stretch)) it.1))
+in_last config class stretches stretch lock place event (inr it) = inr it
+
+-- one link more entered its events
+enters_link : (config : Config) (class : ClassNo) (turn : ℕ) {mid after : Sight} (stretches : List Stretch) (stretch : Stretch) (a b c : List Span) → Enters (IsOfStretches config class stretches) turn mid a b
+    → Grows mid after → Enters (IsOfStretch config class stretch) turn after b c → Enters (IsOfStretches config class (stretches ++ stretch ∷ [])) turn after a c
+enters_link config class turn {mid = mid} {after = after} stretches stretch a b c some grows one =
+    let All = IsOfStretches config class (stretches ++ stretch ∷ []) in
+    enters_both All turn {mid = mid} {after = after} a b c
+    (enters_more (IsOfStretches config class stretches) All turn {after = mid} a b (in_longer config class stretches stretch) some) grows
+    (enters_more (IsOfStretch config class stretch) All turn {after = after} b c (in_last config class stretches stretch) one)
+
+-- one link more was counted
+pub links_counted-more : (config : Config) (class : ClassNo) (a b c : List Event) (who : Who) (moment : ℕ) (links : List Link) (stretches : List Stretch) (link : Link) (stretch : Stretch) (h m n : Histogram)
+    → AreLinksCounted config class a b who moment links stretches h m → IsLinkCounted config class b c who moment link stretch m n
+    → AreLinksCounted config class a c who moment (links ++ link ∷ []) (stretches ++ stretch ∷ []) h n
+links_counted-more config class a b c who moment [] [] link stretch h m n none one =
+    (c, n, subst (λ (x : Histogram). IsLinkCounted config class a c who moment link stretch x n) none.1 (subst (λ (l : List Event). IsLinkCounted config class l c who moment link stretch m n) none.0 one), (refl, refl))
+links_counted-more config class a b c who moment [] (s ∷ stretches) link stretch h m n some one = absurd some
+links_counted-more config class a b c who moment (l ∷ links) [] link stretch h m n some one = absurd some
+links_counted-more config class a b c who moment (l ∷ links) (s ∷ stretches) link stretch h m n some one =
+    (some.0, some.1, some.2, links_counted-more config class some.0 b c who moment links stretches link stretch some.1 m n some.3 one)
+
+-- of a snapshot's links the first ones were counted, and the account gained only what their crawls made
+pub record CountsSoFar (config : Config) (class : ClassNo) (before after : PassView) (who : Who) (moment : ℕ) (links done : List Link) (histogram : Histogram) : Type 0 where
+  pub snapshot : IsSnapshot config class before.sight after.sight (length links)
   pub links_are : snapshot.links ≡ links
-  pub counted : AreLinksCounted config class (class_told snapshot.history) (list_at after.seen (class_lock config class)) who moment done no_counts histogram
+  pub stretches : List Stretch
+  pub counted : AreLinksCounted config class (class_told snapshot.history) (list_at after.sight.seen (class_lock config class)) who moment done stretches no_counts histogram
+  pub entered : Enters (IsOfStretches config class stretches) who.turn after.sight before.made after.made
 
 -- none of them
-pub so_far_none : (config : Config) (class : ClassNo) (before after : Sight) (who : Who) (moment : ℕ) (links : List Link) (h : Histogram) → h ≡ no_counts
-    → (snapshot : IsSnapshot config class before after (length links)) × (snapshot.links ≡ links) × (list_at after.seen (class_lock config class) ≡ class_told snapshot.history)
-    → CountsSoFar config class before after who moment links [] h
-so_far_none config class before after who moment links h none taken = record { snapshot = taken.0; links_are = taken.1; counted = (taken.2, none) }
+pub so_far_none : (config : Config) (class : ClassNo) (before after : PassView) (who : Who) (moment : ℕ) (links : List Link) (h : Histogram) → h ≡ no_counts
+    → (snapshot : IsSnapshot config class before.sight after.sight (length links)) × (snapshot.links ≡ links) × (list_at after.sight.seen (class_lock config class) ≡ class_told snapshot.history)
+    → after.made ≡ before.made → CountsSoFar config class before after who moment links [] h
+so_far_none config class before after who moment links h none taken same = record {
+  snapshot = taken.0;
+  links_are = taken.1;
+  stretches = [];
+  counted = (taken.2, none);
+  entered = enters_same (IsOfStretches config class []) who.turn before.made after.made same;
+}
 
 -- one more
-pub so_far_more : (config : Config) (class : ClassNo) (a b c : Sight) (who : Who) (moment : ℕ) (links done more : List Link) (link : Link) (h h_new : Histogram)
-    → CountsSoFar config class a b who moment links done h → Grows b c
-    → IsLinkCounted config class (list_at b.seen (class_lock config class)) (list_at c.seen (class_lock config class)) who moment link h h_new → done ++ link ∷ [] ≡ more
-    → CountsSoFar config class a c who moment links more h_new
+pub so_far_more : (config : Config) (class : ClassNo) (a b c : PassView) (who : Who) (moment : ℕ) (links done more : List Link) (link : Link) (stretch : Stretch) (h h_new : Histogram)
+    → CountsSoFar config class a b who moment links done h → Grows b.sight c.sight
+    → IsLinkCounted config class (list_at b.sight.seen (class_lock config class)) (list_at c.sight.seen (class_lock config class)) who moment link stretch h h_new
+    → Enters (IsOfStretch config class stretch) who.turn c.sight b.made c.made → done ++ link ∷ [] ≡ more → CountsSoFar config class a c who moment links more h_new
 unfolding snapshot_later
-so_far_more config class a b c who moment links done more link h h_new some grows one is = record {
-  snapshot = snapshot_later config class a b c (length links) some.snapshot grows;
+so_far_more config class a b c who moment links done more link stretch h h_new some grows one entered is = record {
+  snapshot = snapshot_later config class a.sight b.sight c.sight (length links) some.snapshot grows;
   links_are = some.links_are;
+  stretches = some.stretches ++ stretch ∷ [];
   counted =
-      subst (λ (l : List Link). AreLinksCounted config class (class_told some.snapshot.history) (list_at c.seen (class_lock config class)) who moment l no_counts h_new) is
-      (links_counted-more config class (class_told some.snapshot.history) (list_at b.seen (class_lock config class)) (list_at c.seen (class_lock config class)) who moment done link no_counts h h_new some.counted one);
+      subst
+      (λ (l : List Link). AreLinksCounted config class (class_told some.snapshot.history) (list_at c.sight.seen (class_lock config class)) who moment l (some.stretches ++ stretch ∷ []) no_counts h_new)
+      is
+      (links_counted-more config class (class_told some.snapshot.history) (list_at b.sight.seen (class_lock config class)) (list_at c.sight.seen (class_lock config class)) who moment done some.stretches link
+      stretch no_counts h h_new some.counted one);
+  entered = enters_link config class who.turn {mid = b.sight} {after = c.sight} some.stretches stretch a.made b.made c.made some.entered grows entered;
 }
 
 -- all of them, and so the class was crawled
-pub so_far_all : (config : Config) (class : ClassNo) (before after : Sight) (who : Who) (moment : ℕ) (links done : List Link) (h : Histogram)
-    → CountsSoFar config class before after who moment links done h → done ≡ links → h.seen ≡ length links
-    → IsBalanced h → ShowsReclaims config class before after who moment 0 h.reclaimed → IsSeenSound config class after → IsCrawledBy config class before after who moment h
-so_far_all config class before after who moment links done h all is count balanced reclaims sound = record {
+pub so_far_all : (config : Config) (class : ClassNo) (before after : PassView) (moment : ℕ) (links done : List Link) (h : Histogram)
+    → CountsSoFar config class before after (next_who before) moment links done h → done ≡ links → h.seen ≡ length links → IsBalanced h
+    → ShowsReclaims config class before.sight after.sight (next_who before) moment 0 h.reclaimed → IsSeenSound config class after.sight → IsCrawledBy config class before after moment h
+so_far_all config class before after moment links done h all is count balanced reclaims sound = record {
   snapshot = record {
     history = all.snapshot.history;
     begins = all.snapshot.begins;
@@ -192,6 +251,10 @@ so_far_all config class before after who moment links done h all is count balanc
   balanced = balanced;
   reclaims = reclaims;
   sound = sound;
+  stretches = all.stretches;
   counted =
-      subst (λ (l : List Link). AreLinksCounted config class (class_told all.snapshot.history) (list_at after.seen (class_lock config class)) who moment l no_counts h) (is ∙ sym all.links_are) all.counted;
+      subst
+      (λ (l : List Link). AreLinksCounted config class (class_told all.snapshot.history) (list_at after.sight.seen (class_lock config class)) (next_who before) moment l all.stretches no_counts h)
+      (is ∙ sym all.links_are) all.counted;
+  account = all.entered;
 }

@@ -17,7 +17,7 @@ use Rattle.mc_board.proofs.{AccountLemmas.are_by_gained, AccountLemmas.are_by_on
 use Rattle.mc_board.proofs.SeenLemmas.{list_at_other, list_at_same}
 use Rattle.mc_pull.specs.declared.{context.Context.Context, looking.Answer.Answer, looking.Judged.Judged}
 use Rattle.mc_pull.specs.{Lone.AreMadeBy, Lone.StripeGrows, Looks.IsAnswered, Looks.answer_by, Question.IsClassOf, Question.Question, Settled.class_with, Walker.Walker}
-use Rattle.mc_store.specs.{Accounts.IsOfStretch, Accounts.IsOfWalk, Accounts.StillCalls, Locked.class_lock, Locked.setting_of, Passes.CallerView, Serving.IsServed, Serving.IsShortFor, Serving.MayFailSeen}
+use Rattle.mc_store.specs.{Accounts.IsOfStretch, Accounts.IsOfWalk, Accounts.StillCalls, Accounts.stretch_of, Locked.class_lock, Locked.setting_of, Passes.CallerView, Serving.IsServed, Serving.IsShortFor, Serving.MayFailSeen}
 use Rattle.mc_store.specs.{Sides.ClassSide, Sides.StripeSide, Sides.class_told, Sides.stripe_sight, Sides.stripe_told, Walking.MayTry, Walking.StillWalks, Walking.StillWalksFrom, Walking.class_sight}
 use Rattle.mc_store.specs.{Accounts.Stretch, Walking.with_class}
 use Rattle.mc_store.proofs.AccountLemmas.{enters_later, grows_itself, still_both, still_longer, still_none, still_seen, still_walked, whole_grows, whole_shared}
@@ -188,6 +188,19 @@ pub still_under : (config : Config) (turn : ℕ) (old new was : ClassSide) (call
 still_under config turn old new was caller caller_new is number still =
     subst (λ (x : ClassSide). StillCalls (IsOfWalk config x.class.number) turn (class_sight config x) (class_sight config new) caller caller_new) is
     (subst (λ (n : ClassNo). StillCalls (IsOfWalk config old.class.number) turn (class_sight config old) (with_class config n new.class.history new.sight) caller caller_new) (sym number) still)
+
+-- a walk in a class from the end of what its owner had told, which was all, as the class is under its lock
+pub stretch_under : (config : Config) (turn : ℕ) (told : List Event) (old new was : ClassSide) (caller caller_new : CallerView) → told ≡ class_told old.class.history → old ≡ was
+    → new.class.number ≡ old.class.number → StillWalksFrom config old.class.number (length told) turn old.sight new.sight old.class.history new.class.history caller caller_new
+    → StillCalls (IsOfStretch config was.class.number (stretch_of was.class new.class)) turn (class_sight config was) (class_sight config new) caller caller_new
+stretch_under config turn told old new was caller caller_new whole is number still =
+    let start : length told ≡ length old.class.history =
+    ap (λ (t : List Event). length t) whole ∙ map_length Rattle.mc_item.specs.declared.event.Event.TheVariants.Class old.class.history in
+    subst (λ (x : ClassSide). StillCalls (IsOfStretch config x.class.number (stretch_of x.class new.class)) turn (class_sight config x) (class_sight config new) caller caller_new) is
+    (subst
+    (λ (n : ClassNo). StillCalls (IsOfStretch config old.class.number (stretch_of old.class new.class)) turn (class_sight config old) (with_class config n new.class.history new.sight) caller caller_new)
+    (sym number)
+    (subst (λ (from : ℕ). StillWalksFrom config old.class.number from turn old.sight new.sight old.class.history new.class.history caller caller_new) start still))
 
 -- a stripe that has seen all that was seen of other locks, and has all that was seen of its own
 stripe_has : (own : StripeSide) (x : Sight) → Grows x own.sight → IsPrefix (list_at x.seen own.lock) (stripe_told own.stripe.history) → Grows x (stripe_sight own)

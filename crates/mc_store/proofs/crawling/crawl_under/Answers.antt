@@ -3,7 +3,7 @@ use Rattle.std.specs.Prelude.{OnOk}
 use Rattle.mc_item.specs.declared.config.Config.{Config}
 use Rattle.mc_segment.specs.ClassState.{ClassView}
 use Rattle.mc_store.specs.{Crawls.CountsOne, Callers.crawling_of, Locked.HasBegunAs, Locked.IsLockedClass, Serving.class_side, Sides.ClassSide}
-use Rattle.mc_store.proofs.{CallerLemmas.begun_as_sees, CrawledLemmas.on_ok_more, GateLemmas.still_under, OwnEventLemmas.gains_crawled, OwnEventLemmas.locked_gains}
+use Rattle.mc_store.proofs.{CallerLemmas.begun_as_sees, CrawledLemmas.on_ok_more, GateLemmas.stretch_under, OwnEventLemmas.gains_crawled, OwnEventLemmas.locked_gains}
 use Rattle.mc_store.proofs.OwnCallLemmas.{may_try_whole}
 use Rattle.mc_store.proofs.crawling.crawl_under.Goals as goal
 
@@ -48,6 +48,6 @@ returns-clause-still g c =
     let old : ClassSide = class_side c.side.inside.owner c.side.inside.seen c.side.inside.state in
     let new : ClassSide = class_side made.new.self.owner.now made.new.self.seen.now made.new.class in
     let still =
-    still_under g.N.Named.config c.args.call.turn.who.turn old new c.args.class.now c.args.caller.now made.new.self.caller.now (c.side.view_is ∙ c.class.view_is)
-    (ap (λ (v : ClassView). v.number) made.ensures.left.grows.same) made.ensures.references.3 in
+    stretch_under g.N.Named.config c.args.call.turn.who.turn c.side.inside.owner.history old new c.args.class.now c.args.caller.now made.new.self.caller.now c.side.invariant.0
+    (c.side.view_is ∙ c.class.view_is) (ap (λ (v : ClassView). v.number) made.ensures.left.grows.same) made.ensures.references.3 in
     search (rules, still)

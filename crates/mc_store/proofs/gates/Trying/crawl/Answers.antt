@@ -1,5 +1,5 @@
 use Rattle.std.proofs.Common.{drop, length, refl, rules, sym, ap, ◌∙◌, subst}
-use Rattle.mc_store.proofs.{AccountLemmas.still_anywhere, CrawledLemmas.counts_one, GateLemmas.no_shorter, GateLemmas.served_asked, GateLemmas.still_caught_up, GateLemmas.still_unwalked, OwnEventLemmas.walks_none}
+use Rattle.mc_store.proofs.{CrawledLemmas.counts_one, GateLemmas.no_shorter, GateLemmas.served_asked, GateLemmas.still_caught_up, GateLemmas.still_unwalked, OwnEventLemmas.walks_none}
 use Rattle.mc_item.specs.declared.item.Who.{Who}
 use Rattle.mc_board.specs.{Accounts.AreBy, Views.OwnerView}
 use Rattle.mc_segment.specs.ClassState.{ClassView}
@@ -53,11 +53,9 @@ returns-clause-references g c =
     let kept =
     made.gate.kept c.args.self.now old.history (refl, refl, none, no_shorter start, still_unwalked config old.number start who.turn c.args.self.now.seen.now.sight old.history caller) in
     let still =
-    still_anywhere config old.number (record { from = start; until = length new.class.history }) who.turn
-    {x = with_class config old.number old.history c.args.self.now.seen.now.sight} {y = with_class config old.number new.class.history new.gate.seen.now.sight} caller _
-    (still_caught_up g.N.Named.board.table config who new.gate.who new.gate.owner.now new.gate.seen.now {x = with_class config old.number old.history c.args.self.now.seen.now.sight} old new.class
+    still_caught_up g.N.Named.board.table config who new.gate.who new.gate.owner.now new.gate.seen.now {x = with_class config old.number old.history c.args.self.now.seen.now.sight} old new.class
     caller new.gate.caller.now _ start (length new.gate.owner.now.history) kept.3 kept.4 made.gate.serves.1 (ap (λ (v : ClassView). v.number) made.grows.same)
-    (kept.0 ∙ sym c.requires.gate.asks) c.catch_up_class.ensures.entered) in
+    (kept.0 ∙ sym c.requires.gate.asks) c.catch_up_class.ensures.entered in
     (search rules, search rules, search rules, still)
 
 pub returns-clause-counted : goal.returns-clause-counted

@@ -5,10 +5,10 @@ use Rattle.mc_item.specs.Counts.{no_counts}
 use Rattle.mc_item.specs.declared.{counts.Histogram.Histogram, item.Link.Link, item.Who.Who}
 use Rattle.mc_board.specs.Histories.{list_at}
 use Rattle.mc_crawl.specs.CrawlCount.{IsBalanced}
-use Rattle.mc_store.specs.Crawls.{IsCrawledBy, IsSnapshot, ShowsReclaims}
+use Rattle.mc_store.specs.Crawls.{IsSnapshot, ShowsReclaims}
 use Rattle.mc_store.specs.{Accounts.Enters, Accounts.IsOfWalk, Locked.class_lock, Passes.PassView, Serving.IsLater, Sides.class_told, Callers.crawling_of}
 use Rattle.mc_store.proofs.AccountLemmas.{enters_both, enters_same}
-use Rattle.mc_store.proofs.CrawledLemmas.{shows_both, shows_none, so_far_all, so_far_more, so_far_none}
+use Rattle.mc_store.proofs.CrawledLemmas.{CountsSoFar, shows_both, shows_none, so_far_all, so_far_more, so_far_none}
 use Rattle.mc_store.proofs.{SeenStripeLemmas.on_err_always, SeenStripeLemmas.called_now}
 use Rattle.mc_store.proofs.LaterLemmas.{later_trans}
 use Rattle.mc_store.proofs.{CallerLemmas.on_ok_always, NextTurnLemmas.turn_called}
@@ -22,15 +22,17 @@ loop-i-init g c =
     let none : c.new-histogram.result ≡ no_counts = c.new-histogram.ensures in
     let turn = c.in_ok-who.ensures.took.turn in
     let links = c.in_ok-links.links.items in
-    let later : IsLater pass.sight seen = subst (λ (p : PassView). IsLater p.sight seen) turn c.snapshot_of.ensures.grows in (
+    let later : IsLater pass.sight seen = subst (λ (p : PassView). IsLater p.sight seen) turn c.snapshot_of.ensures.grows in
+    let same : c.snapshot_of.new.pass.made ≡ pass.made = ap (λ (p : PassView). p.made) c.snapshot_of.ensures.same ∙ ap (λ (p : PassView). p.made) turn in (
       ap (λ (h : Histogram). h.seen) none,
       subst IsBalanced (sym none) refl,
       subst (λ (h : Histogram). ShowsReclaims config c.args.class pass.sight seen c.in_ok-who.who c.args.moment 0 h.reclaimed) (sym none)
           (shows_none config c.args.class pass.sight seen c.in_ok-who.who c.args.moment 0 later.seen),
-      so_far_none config c.args.class pass.sight seen c.in_ok-who.who c.args.moment links c.new-histogram.result none
+      so_far_none config c.args.class pass c.snapshot_of.new.pass c.in_ok-who.who c.args.moment links c.new-histogram.result none
           (subst
           (λ (p : PassView). (snapshot : IsSnapshot config c.args.class p.sight seen (length links)) × (snapshot.links ≡ links) × (list_at seen.seen (class_lock config c.args.class) ≡ class_told snapshot.history)) turn
-          c.in_ok-links.ensures.links),
+          c.in_ok-links.ensures.links)
+          same,
       later,
       ap (λ (p : PassView). p.caller) c.snapshot_of.ensures.same ∙ ap (λ (p : PassView). p.caller) turn,
       ap (λ (p : PassView). p.turn) c.snapshot_of.ensures.same ∙ ap (λ (p : PassView). p.turn) turn,
@@ -38,8 +40,7 @@ loop-i-init g c =
       ap (λ (p : PassView). p.calls) c.snapshot_of.ensures.same ∙ ap (λ (p : PassView). p.calls) turn,
       c.in_ok-links.ensures.sound,
       ap (λ (p : PassView). p.hands) c.snapshot_of.ensures.same ∙ ap (λ (p : PassView). p.hands) turn,
-      enters_same (IsOfWalk config c.args.class) c.in_ok-who.who.turn pass.made c.snapshot_of.new.pass.made
-          (ap (λ (p : PassView). p.made) c.snapshot_of.ensures.same ∙ ap (λ (p : PassView). p.made) turn),
+      enters_same (IsOfWalk config c.args.class) c.in_ok-who.who.turn pass.made c.snapshot_of.new.pass.made same,
     )
 
 pub returns-in_err-crawl_link-clause-grows : goal.returns-in_err-crawl_link-clause-grows
@@ -64,14 +65,15 @@ loop-i-preserved g c =
     let config = g.N.Named.config in
     let i = c.loop-i.invariant in
     let pass = c.args.pass.now in
-    let new = c.crawl_link.new.pass in (
-      c.in_ok-crawl_link.ensures.counted.seen ∙ ap (λ (n : ℕ). n + 1) i.0,
+    let new = c.crawl_link.new.pass in
+    let one = c.in_ok-crawl_link.ensures.counted in (
+      one.1.seen ∙ ap (λ (n : ℕ). n + 1) i.0,
       c.crawl_link.ensures.balanced i.1,
       shows_both config c.args.class pass.sight c.loop-i.pass.sight new.sight c.in_ok-who.who c.args.moment 0 c.loop-i.histogram.reclaimed c.crawl_link.new.histogram.reclaimed
-          i.2 c.in_ok-crawl_link.ensures.counted.reclaims,
-      so_far_more config c.args.class pass.sight c.loop-i.pass.sight new.sight c.in_ok-who.who c.args.moment c.in_ok-links.links.items
+          i.2 one.1.reclaims,
+      so_far_more config c.args.class pass c.loop-i.pass new c.in_ok-who.who c.args.moment c.in_ok-links.links.items
           (take c.loop-i.i c.in_ok-links.links.items) (take (c.loop-i.i + 1) c.in_ok-links.links.items)
-          c.index.result.now c.loop-i.histogram c.crawl_link.new.histogram i.3 c.crawl_link.ensures.grows.seen c.in_ok-crawl_link.ensures.counted.counted
+          c.index.result.now one.0 c.loop-i.histogram c.crawl_link.new.histogram i.3 c.crawl_link.ensures.grows.seen one.1.counted one.2
           (ap (λ (l : Link). take c.loop-i.i c.in_ok-links.links.items ++ l ∷ []) c.index.ensures
           ∙ sym (take_more c.in_ok-links.links.items c.loop-i.i c.index.result.now (omega (arith, c.loop-i-test.true, c.len-i-end.ensures)))),
       later_trans pass.sight c.loop-i.pass.sight new.sight i.4 c.crawl_link.ensures.grows,
@@ -90,9 +92,14 @@ returns-clause-crawled g c =
     let i = c.loop-i.invariant in
     let links = c.in_ok-links.links.items in
     let all : c.loop-i.i ≡ length links = omega (arith, c.len-i-end.ensures, c.loop-i.auto.i-end, c.loop-i-test.false) in
-    subst (λ (who : Who). IsCrawledBy g.N.Named.config c.args.class c.args.pass.now.sight c.loop-i.pass.sight who c.args.moment c.loop-i.histogram) i.7
-    (so_far_all g.N.Named.config c.args.class c.args.pass.now.sight c.loop-i.pass.sight c.in_ok-who.who c.args.moment links (take c.loop-i.i links) c.loop-i.histogram i.3
-    (ap (λ (n : ℕ). take n links) all ∙ take-length links) (i.0 ∙ all) i.1 i.2 i.9)
+    let config = g.N.Named.config in
+    let old = c.args.pass.now in
+    let new = c.loop-i.pass in
+    let done = take c.loop-i.i links in
+    so_far_all config c.args.class old new c.args.moment links done c.loop-i.histogram
+    (subst (λ (who : Who). CountsSoFar config c.args.class old new who c.args.moment links done c.loop-i.histogram) i.7 i.3)
+    (ap (λ (n : ℕ). take n links) all ∙ take-length links) (i.0 ∙ all) i.1
+    (subst (λ (who : Who). ShowsReclaims config c.args.class old.sight new.sight who c.args.moment 0 c.loop-i.histogram.reclaimed) i.7 i.2) i.9
 
 pub returns-clause-hands : goal.returns-clause-hands
 returns-clause-hands g c = c.loop-i.invariant.10

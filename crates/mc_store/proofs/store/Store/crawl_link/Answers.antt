@@ -7,13 +7,14 @@ use Rattle.mc_pull.specs.Growth as classes
 use Rattle.mc_item.specs.declared.{call_event.CallEvent.CallEvent, item.ClassNo.ClassNo}
 use Rattle.mc_store.specs.{Callers.crawling_of, Crawls.CountsOne, Crawls.HasCountedLink, Finals.IsBehindAt, Locked.HasBegunAs}
 use Rattle.mc_store.specs.{Locked.IsHeldClass, Passes.PassView, Passes.HasCalled, Passes.caller_of, Sides.ClassSide, Sides.class_told}
-use Rattle.mc_store.proofs.{CrawledLemmas.link_seen, CrawledLemmas.on_ok_more, GrownClassLemmas.class_grew, GrownClassLemmas.fails_full}
+use Rattle.mc_store.proofs.{CrawledLemmas.link_entered, CrawledLemmas.link_seen, CrawledLemmas.on_ok_more, GrownClassLemmas.class_grew, GrownClassLemmas.fails_full}
 use Rattle.mc_store.proofs.GrownClassLemmas.{class_shared, seen_sound}
 use Rattle.mc_board.specs.Views.{SeenView}
 use Rattle.mc_evidence.specs.Seen.{stripes_seen}
 use Rattle.mc_hits.specs.Rule.{AreBefore}
-use Rattle.mc_store.specs.{Accounts.Enters, Accounts.IsOfWalk, Accounts.StillCalls, Callers.placed_in, Callers.turns_of, Passes.CallerView, Walking.class_sight}
-use Rattle.mc_store.proofs.{AccountLemmas.enters_later, AccountLemmas.still_pass, PlacedLemmas.placed_same, PlacedLemmas.placed_sees}
+use Rattle.mc_store.specs.{Accounts.Enters, Accounts.IsOfStretch, Accounts.IsOfWalk, Accounts.StillCalls, Accounts.Stretch, Accounts.stretch_of}
+use Rattle.mc_store.specs.{Callers.placed_in, Callers.turns_of, Passes.CallerView, Walking.class_sight}
+use Rattle.mc_store.proofs.{AccountLemmas.enters_later, AccountLemmas.still_anywhere, AccountLemmas.still_pass, PlacedLemmas.placed_same, PlacedLemmas.placed_sees}
 use Rattle.mc_store.proofs.store.Store.crawl_link.Goals as goal
 
 pub returns-clause-full : goal.returns-clause-full
@@ -95,8 +96,18 @@ returns-clause-counted g c =
     let first = c.args.histogram.now in
     let last = c.crawl_under-done.new.histogram in
     let P : ClassView → Type 0 = λ v. CountsOne config v new.class c.args.crawling.turn c.args.link first last in
-    on_ok_more c.crawl_under-done.result (P old.class) (HasCountedLink config c.args.crawling.class c.args.pass.now.sight c.share.new.seen.sight c.args.crawling.turn c.args.link first last)
-    (link_seen config c.args.crawling.class c.args.pass.now.sight c.share.new.seen.sight c.args.crawling.turn c.args.link first last old.class new.class grew)
+    let pass = c.args.pass.now in
+    let after = c.share.new.seen.sight in
+    let class = c.args.crawling.class in
+    let turn = c.args.crawling.turn in
+    let made = c.crawl_under-done.new.caller.made in
+    let first_made : c.tell_class.new.self.made ≡ pass.made = ap (λ (k : CallerView). k.made) c.tell_class.ensures.same ∙ ap (λ (p : PassView). p.made) c.pass.view_is in
+    let entered : Enters (IsOfStretch config class (stretch_of old.class new.class)) turn.who.turn after pass.made made =
+    link_entered config class turn.who.turn {mid = class_sight config new} {after = after} c.tell_class.new.class.class old.class new.class c.tell_class.new.self.made pass.made made cls number first_made
+    (class_shared table config new after new_kept told all) c.crawl_under-done.ensures.still.enters in
+    on_ok_more c.crawl_under-done.result (P old.class)
+    ((stretch : Stretch) × HasCountedLink config class pass.sight after turn c.args.link stretch first last × Enters (IsOfStretch config class stretch) turn.who.turn after pass.made made)
+    (λ counts. (stretch_of old.class new.class, link_seen config class pass.sight after turn c.args.link first last old.class new.class grew counts, entered))
     (subst (λ (v : ClassView). OnOk c.crawl_under-done.result (P v)) cls c.crawl_under-done.ensures.counted)
 
 pub returns-clause-same : goal.returns-clause-same
@@ -114,10 +125,12 @@ returns-clause-same g c =
     let whole : list_at c.share.new.seen.sight.seen new.lock ≡ class_told new.class.history =
     subst (λ (x : ClassSide). list_at c.share.new.seen.sight.seen x.lock ≡ class_told x.class.history) c.own-2.view_is c.share.ensures.told in
     let all : Grows new.sight c.share.new.seen.sight = subst (λ (x : ClassSide). Grows x.sight c.share.new.seen.sight) c.own-2.view_is c.share.ensures.all in
+    let told = c.tell_class.new.class.class in
     let first = class_sight config c.tell_class.new.class in
     let still : StillCalls Suits turn first (class_sight config new) old last =
     subst (λ (k : CallerView). StillCalls Suits turn first (class_sight config new) k last) c.tell_class.ensures.same
-    (subst (λ (n : ClassNo). StillCalls (IsOfWalk config n) turn first (class_sight config new) c.tell_class.new.self last) number c.crawl_under-done.ensures.still) in (
+    (subst (λ (n : ClassNo). StillCalls (IsOfWalk config n) turn first (class_sight config new) c.tell_class.new.self last) number
+    (still_anywhere config told.number (stretch_of told new.class) turn {x = first} {y = class_sight config new} c.tell_class.new.self last c.crawl_under-done.ensures.still)) in (
       still_pass Suits turn {x = first} {y = class_sight config new} old last c.pass.inside.seen.sight c.share.new.seen.sight c.pass.inside.hands c.args.pass.now still c.pass.view_is,
       subst (λ (p : PassView). Enters Suits turn c.share.new.seen.sight p.made last.made) c.pass.view_is
           (enters_later Suits turn {mid = class_sight config new} {after = c.share.new.seen.sight} old.made last.made
@@ -128,10 +141,11 @@ pub invariant_of-pass : goal.invariant_of-pass
 invariant_of-pass g c =
     let config = g.N.Named.config in
     let i = c.pass.invariant in
+    let told = c.tell_class.new.class.class in
     let new = c.crawl_under-done.new.caller in
     let still =
     subst
-    (λ (k : CallerView). StillCalls (IsOfWalk config c.tell_class.new.class.class.number) c.args.crawling.turn.who.turn (class_sight config c.tell_class.new.class)
+    (λ (k : CallerView). StillCalls (IsOfStretch config told.number (stretch_of told c.crawl_under-done.new.class.class)) c.args.crawling.turn.who.turn (class_sight config c.tell_class.new.class)
     (class_sight config c.crawl_under-done.new.class) k new)
     c.tell_class.ensures.same c.crawl_under-done.ensures.still in
     let seen : c.compare.new.seen ≡ c.pass.inside.seen = c.compare.ensures.same.1 in
