@@ -113,20 +113,21 @@ reclaims_told who moment many (board_events.Class e ∷ es) (inl some) = inl (re
 reclaims_told who moment many (board_events.Class e ∷ es) (inr t) = inr (t.0, (t.1.0, t.1.1, reclaims_told who moment t.1.0 es t.1.2))
 
 -- and by a crawl
-pub crawled_between : (config : Config) (class : ClassNo) (before after : Sight) (who : Who) (moment : ℕ) (histogram : Histogram) → IsClass (setting_of config) class → Grows before after
-    → IsCrawledBy config class before after who moment histogram
-    → StandsBetween config (histories_seen config before) (histories_seen config after) (exchange who.caller who.turn (Crawls class) moment (Counted histogram))
-crawled_between config class before after who moment histogram is grows by =
+pub crawled_between : (config : Config) (class : ClassNo) (before after : PassView) (moment : ℕ) (histogram : Histogram) → IsClass (setting_of config) class → Grows before.sight after.sight
+    → IsCrawledBy config class before after moment histogram
+    → StandsBetween config (histories_seen config before.sight) (histories_seen config after.sight) (exchange before.caller before.turn (Crawls class) moment (Counted histogram))
+crawled_between config class before after moment histogram is grows by =
+    let who = next_who before in
     let snapshot = by.snapshot in
     let shown = by.reclaims in
-    let old = list_at before.seen (class_lock config class) in
-    let new = list_at after.seen (class_lock config class) in
+    let old = list_at before.sight.seen (class_lock config class) in
+    let new = list_at after.sight.seen (class_lock config class) in
     let begins : IsPrefix (class_events (class_told snapshot.history)) (class_events new) = classes_grow config.stripes (λ lock. class_told snapshot.history) (λ lock. new) (λ lock. snapshot.now) class in
     let many : histogram.reclaimed ≡ shown.many = shown.count_is ∙ omega arith in
     let whole = by.sound in
-    let now : (histories_seen config after).classes class ≡ whole.history = ap class_events whole.now ∙ class_events-map whole.history in
+    let now : (histories_seen config after.sight).classes class ≡ whole.history = ap class_events whole.now ∙ class_events-map whole.history in
     record {
-      grew = seen_grow config before after grows;
+      grew = seen_grow config before.sight after.sight grows;
       placed = is;
       stands = record {
         at = snapshot.history;
@@ -137,14 +138,15 @@ crawled_between config class before after who moment histogram is grows by =
         end = whole.history;
         rest = [];
         ends = now ∙ sym (append-nil whole.history);
-        counted = subst (λ (ls : List Link). AreLinksCounted config class (class_told snapshot.history) (class_told whole.history) who moment ls no_counts histogram) snapshot.links_are
-            (subst (λ (es : List Event). AreLinksCounted config class (class_told snapshot.history) es who moment snapshot.links no_counts histogram) whole.now by.counted);
+        stretches = by.stretches;
+        counted = subst (λ (ls : List Link). AreLinksCounted config class (class_told snapshot.history) (class_told whole.history) who moment ls by.stretches no_counts histogram) snapshot.links_are
+            (subst (λ (es : List Event). AreLinksCounted config class (class_told snapshot.history) es who moment snapshot.links by.stretches no_counts histogram) whole.now by.counted);
         balanced = by.balanced;
         since = class_events shown.events;
         since_is = ap class_events (sym shown.events_are) ∙ class_events-append old shown.events;
         reclaims = reclaims_told who moment histogram.reclaimed shown.events (subst (λ (k : ℕ). HasReclaims who moment k shown.events) (sym many) shown.reclaims);
       };
-      evidence = subst (λ (h : List ClassEvent). ClassKeeps (setting_of config) class h (histories_seen config after).stripes) (sym now) whole.sound;
+      evidence = subst (λ (h : List ClassEvent). ClassKeeps (setting_of config) class h (histories_seen config after.sight).stripes) (sym now) whole.sound;
     }
 
 -- and by a new limit

@@ -4,12 +4,11 @@ use Rattle.std.specs.Prelude.{IfOk, None, OnErr, Some, cond, nat_eq, true, IsErr
 use Rattle.std.specs.List.{slice_get}
 use Rattle.std.proofs.lemmas.List.Elements.{filter-append}
 use Rattle.mc_item.specs.declared.{call_event.CallEvent.CallEvent, command.Command.Command, config.Config.Config, counts.Moves.Moves, fault.Fault.Fault}
-use Rattle.mc_item.specs.declared.{item.ClassNo.ClassNo, item.Who.Who, reply.Reply.Reply, stripe_event.Did.Did, stripe_event.StripeEvent.StripeEvent}
+use Rattle.mc_item.specs.declared.{item.ClassNo.ClassNo, reply.Reply.Reply, stripe_event.Did.Did, stripe_event.StripeEvent.StripeEvent}
 use Rattle.mc_item.specs.declared.{counts.Histogram.Histogram}
 use Rattle.mc_item.specs.declared.fault.Fault.TheVariants.{HistoryFull}
 use Rattle.mc_item.specs.declared.stripe_event.StripeEvent.TheVariants as events
 use Rattle.mc_board.specs.Histories.{Grows, list_at}
-use Rattle.mc_board.specs.declared.rule.Sight.{Sight}
 use Rattle.mc_board.proofs.PrefixLemmas.{prefix_length}
 use Rattle.mc_evidence.specs.{Seen.stripe_events, Setting.IsClass}
 use Rattle.mc_evidence.proofs.SeenLemmas.{stripe_events-map}
@@ -198,10 +197,10 @@ module _ (config : Config) (old new : PassView) (same : new.caller ≡ old.calle
   -- and a crawl where it was made
   pub crawled_ok : (class : ClassNo) (moment : ℕ) (r : Result Histogram Fault) → MayCall config old → OnOk r (new.turn ≡ old.turn + 1) → IsClass (setting_of config) class
       → OnOk r (new.calls ≡ old.calls ++ crawling_of class moment ∷ [])
-      → IfOk r (IsCrawledBy config class old.sight new.sight (record { caller = old.caller; turn = old.turn }) moment)
+      → IfOk r (IsCrawledBy config class old new moment)
       → IfOk r (λ histogram. MakesCalls (Crawls class ∷ []) (Counted histogram ∷ []) moment (view_of config old) (view_of config new))
   crawled_ok class moment (Ok histogram) may turn is gained by =
-      made_one _ _ moment tt turn (class_adds _ may refl gained (λ n. refl) (crawled_between config class old.sight new.sight (next_who old) moment histogram is grows by))
+      made_one _ _ moment tt turn (class_adds _ may refl gained (λ n. refl) (crawled_between config class old new moment histogram is grows by))
   crawled_ok class moment (Err fault) may turn is gained by = tt
 
   -- and a new limit where it was set
@@ -228,6 +227,6 @@ goes_on config old new r may same turn full = record {
 }
 
 -- where a class was crawled, each entry that was seen is counted as one kind
-pub crawled_kinds : (config : Config) (class : ClassNo) (before after : Sight) (who : Who) (moment : ℕ) (r : Result Histogram Fault) → IfOk r (IsCrawledBy config class before after who moment) → IfOk r AddsUp
-crawled_kinds config class before after who moment (Ok histogram) by = by.balanced
-crawled_kinds config class before after who moment (Err fault) by = tt
+pub crawled_kinds : (config : Config) (class : ClassNo) (before after : PassView) (moment : ℕ) (r : Result Histogram Fault) → IfOk r (IsCrawledBy config class before after moment) → IfOk r AddsUp
+crawled_kinds config class before after moment (Ok histogram) by = by.balanced
+crawled_kinds config class before after moment (Err fault) by = tt

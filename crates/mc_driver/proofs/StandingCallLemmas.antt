@@ -113,6 +113,7 @@ NotesCrawling-append config seen history more who class moment histogram noted =
   end = noted.end;
   rest = noted.rest ++ more;
   ends = ap (λ (h : List ClassEvent). h ++ more) noted.ends ∙ append_assoc noted.end noted.rest more;
+  stretches = noted.stretches;
   counted = noted.counted;
   balanced = noted.balanced;
   since = noted.since ++ more;
@@ -208,6 +209,7 @@ NotesCrawling-less config less seen history who class moment histogram begins no
   end = noted.end;
   rest = noted.rest;
   ends = noted.ends;
+  stretches = noted.stretches;
   counted = noted.counted;
   balanced = noted.balanced;
   since = begins.0 ++ noted.since;

@@ -17,7 +17,7 @@ use Rattle.mc_evidence.specs.{Refusals.WasTried, Setting.IsClass, Setting.site_i
 use Rattle.mc_crawl.specs.{CrawlCount.IsBalanced, Snapshot.links_of}
 use Rattle.mc_item.specs.Counts.{no_counts}
 use Rattle.mc_item.specs.declared.reply.Room.TheVariants as rooms
-use Rattle.mc_store.specs.{Callers.HasNoneOf, Commands.LeadsUp, Crawls.AreLinksCounted, Crawls.HasReclaims, Earned.IsLastResort, Hits.AreAdvanced}
+use Rattle.mc_store.specs.{Accounts.Stretch, Callers.HasNoneOf, Commands.LeadsUp, Crawls.AreLinksCounted, Crawls.HasReclaims, Earned.IsLastResort, Hits.AreAdvanced}
 use Rattle.mc_store.specs.{Locked.setting_of, Made.HasNoneMadeBy, Sides.class_told}
 use Rattle.mc_stripe.specs.StripeState.{Stripe, stripe}
 
@@ -80,8 +80,9 @@ pub record NotesJuggling (config : Config) (seen history : List ClassEvent) (who
   pub answers : List GateAnswer
   pub juggled : IsJuggle (rounds (opened config class) who moment config) (before ++ advances) answers ((before ++ advances) ++ own) moves
 
--- a class's history has a call's crawl: the entries at one point after what was seen, counted one by one, give this histogram.
--- The events after what was seen have a `Reclaimed` by this call, at this moment, for each that it counts as reclaimed
+-- a class's history has a call's crawl: the entries at one point after what was seen, counted one by one, each in its stretch of the
+-- history, give this histogram. The events after what was seen have a `Reclaimed` by this call, at this moment, for each that it
+-- counts as reclaimed
 pub record NotesCrawling (config : Config) (seen history : List ClassEvent) (who : Who) (class : ClassNo) (moment : ℕ) (histogram : Histogram) : Type 0 where
   pub at : List ClassEvent
   pub behind : List ClassEvent
@@ -91,8 +92,9 @@ pub record NotesCrawling (config : Config) (seen history : List ClassEvent) (who
   pub end : List ClassEvent
   pub rest : List ClassEvent
   pub ends : history ≡ end ++ rest
-  pub counted : AreLinksCounted config class (class_told at) (class_told end) who moment (links_of (record (opened config class) { history = at })) no_counts
-      histogram
+  pub stretches : List Stretch
+  pub counted : AreLinksCounted config class (class_told at) (class_told end) who moment (links_of (record (opened config class) { history = at })) stretches
+      no_counts histogram
   pub balanced : IsBalanced histogram
   pub since : List ClassEvent
   pub since_is : history ≡ seen ++ since

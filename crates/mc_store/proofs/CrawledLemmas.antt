@@ -1,6 +1,6 @@
 -- What a pass has seen of a crawl adds up.
 use Rattle.std.proofs.Common.{◌≡◌, ◌+◌, ℕ, List, [], ◌∷◌, ◌++◌, Result, Ok, Err, refl, sym, ap, ◌∙◌, subst, inl, inr, arith, length, append_assoc, zero, suc, Option, slice_get}
-use Rattle.std.specs.Prelude.{IsSomeAnd, OnOk}
+use Rattle.std.specs.Prelude.{◌≤◌, IsSomeAnd, MatchResult, OnErr, OnOk}
 use mathlib.Core.List.{IsPrefix}
 use Rattle.mc_item.specs.declared.{class_event.ClassEvent.ClassEvent, config.Config.Config, counts.Histogram.Histogram, event.Event.Event}
 use Rattle.mc_item.specs.declared.{event.Event.TheVariants.Call, event.Event.TheVariants.Class, event.Event.TheVariants.Stripe, fault.Fault.Fault}
@@ -15,8 +15,8 @@ use Rattle.mc_pull.specs.declared.looking.Answer.{Answer}
 use Rattle.mc_crawl.specs.{Crawl.AreReclaims, Crawl.HasCounted, Crawl.Reclaims, Crawl.crawl, CrawlCount.IsBalanced, Snapshot.links_of}
 use Rattle.mc_stripe.specs.declared.trying.Turn.{Turn}
 use Rattle.mc_store.specs.{Accounts.Enters, Accounts.IsOfStretch, Accounts.IsOfStretches, Accounts.IsWithin, Accounts.Stretch, Accounts.stretch_of, Calls.IsSeenGrowOf, Locked.class_lock}
-use Rattle.mc_store.specs.{Passes.PassView, Passes.next_who, Sides.class_told}
-use Rattle.mc_store.specs.Crawls.{AreLinksCounted, CountsLink, CountsOne, HasCountedLink, HasReclaims, IsCrawledBy, IsLinkCounted, IsSeenSound, IsSnapshot, ShowsReclaims}
+use Rattle.mc_store.specs.{Callers.crawling_of, Passes.PassView, Passes.next_who, Sides.class_told}
+use Rattle.mc_store.specs.Crawls.{AreLinksCounted, CountsLink, CountsOne, HasCountedLink, HasReclaims, IsCrawledBy, IsCrawledTill, IsLinkCounted, IsSeenSound, IsSnapshot, ShowsReclaims}
 use Rattle.mc_store.proofs.AccountLemmas.{enters_both, enters_later, enters_more, enters_same}
 use Rattle.mc_store.proofs.SyncedStepLemmas.{map_append}
 
@@ -84,6 +84,19 @@ shows_one config class before after who moment n m old new seen now made = recor
 pub on_ok_more : {T : Type 0} (r : Result T Fault) (P Q : Type 0) → (P → Q) → OnOk r P → OnOk r Q
 on_ok_more (Ok x) P Q more p = more p
 on_ok_more (Err f) P Q more p = tt
+
+-- what is told of both outcomes, in other words
+pub match_ends : {T : Type 0} (r : Result T Fault) (P Q E F : Type 0) → (P → Q) → (E → F) → MatchResult r (λ x. P) (λ f. E) → MatchResult r (λ x. Q) (λ f. F)
+match_ends (Ok x) P Q E F more less it = more it
+match_ends (Err f) P Q E F more less it = less it
+
+pub match_on : {T : Type 0} (r : Result T Fault) (P E : Type 0) → OnOk r P → OnErr r E → MatchResult r (λ x. P) (λ f. E)
+match_on (Ok x) P E it none = it
+match_on (Err f) P E none it = it
+
+pub on_ok_of : {T : Type 0} (r : Result T Fault) (P E : Type 0) → MatchResult r (λ x. P) (λ f. E) → OnOk r P
+on_ok_of (Ok x) P E it = it
+on_ok_of (Err f) P E it = tt
 
 -- a snapshot is seen by whoever has seen more
 pub snapshot_later : (config : Config) (class : ClassNo) (a b c : Sight) (count : ℕ) → IsSnapshot config class a b count → Grows b c → IsSnapshot config class a c count
@@ -185,6 +198,28 @@ enters_link config class turn {mid = mid} {after = after} stretches stretch a b 
     (enters_more (IsOfStretches config class stretches) All turn {after = mid} a b (in_longer config class stretches stretch) some) grows
     (enters_more (IsOfStretch config class stretch) All turn {after = after} b c (in_last config class stretches stretch) one)
 
+-- what was made in no stretch of the class was made in any
+in_none : (config : Config) (class : ClassNo) (stretches : List Stretch) (lock place : ℕ) (event : Event) → IsOfStretches config class [] lock place event
+    → IsOfStretches config class stretches lock place event
+in_none config class stretches lock place event (inl it) = absurd it.1.1
+in_none config class stretches lock place event (inr it) = inr it
+
+-- and so was what was made in an empty one
+in_empty : (config : Config) (class : ClassNo) (stretch : Stretch) → stretch.until ≤ stretch.from → (lock place : ℕ) (event : Event) → IsOfStretch config class stretch lock place event
+    → IsOfStretches config class [] lock place event
+in_empty config class stretch none lock place event (inl it) =
+    let low = it.1.0 in
+    let high = it.1.1 in absurd (omega (arith, none, low, high))
+in_empty config class stretch none lock place event (inr it) = inr it
+
+-- a crawl that left its class's history as it was entered no event of it
+pub enters_no_link : (config : Config) (class : ClassNo) (turn : ℕ) {after : Sight} (c c_new : ClassView) (made made_new : List Span) → c_new.history ≡ c.history
+    → Enters (IsOfStretch config class (stretch_of c c_new)) turn after made made_new → Enters (IsOfStretches config class []) turn after made made_new
+enters_no_link config class turn {after = after} c c_new made made_new same enters =
+    let long : length c_new.history ≡ length c.history = ap (λ (h : List ClassEvent). length h) same in
+    let none : length c_new.history ≤ length c.history = omega (arith, long) in
+    enters_more (IsOfStretch config class (stretch_of c c_new)) (IsOfStretches config class []) turn {after = after} made made_new (in_empty config class (stretch_of c c_new) none) enters
+
 -- one link more was counted
 pub links_counted-more : (config : Config) (class : ClassNo) (a b c : List Event) (who : Who) (moment : ℕ) (links : List Link) (stretches : List Stretch) (link : Link) (stretch : Stretch) (h m n : Histogram)
     → AreLinksCounted config class a b who moment links stretches h m → IsLinkCounted config class b c who moment link stretch m n
@@ -258,3 +293,46 @@ so_far_all config class before after moment links done h all is count balanced r
       (is ∙ sym all.links_are) all.counted;
   account = all.entered;
 }
+
+-- or a fault ended it behind some of them
+pub so_far_till : (config : Config) (class : ClassNo) (a b c : PassView) (who : Who) (moment : ℕ) (links done : List Link) (h : Histogram) → CountsSoFar config class a b who moment links done h
+    → who ≡ next_who a → IsPrefix done links → Grows b.sight c.sight → Enters (IsOfStretches config class []) who.turn c.sight b.made c.made → c.calls ≡ a.calls ++ crawling_of class moment ∷ []
+    → IsCrawledTill config class a c moment
+so_far_till config class a b c who moment links done h some is begins grows last noted =
+    let lock = class_lock config class in
+    let Suits = IsOfStretches config class some.stretches in
+    record {
+      history = some.snapshot.history;
+      begins = some.snapshot.begins;
+      links = done;
+      some = subst (IsPrefix done) (sym some.links_are ∙ some.snapshot.links_are) begins;
+      stretches = some.stretches;
+      until = list_at b.sight.seen lock;
+      now = grows.at lock;
+      histogram = h;
+      counted = subst (λ (w : Who). AreLinksCounted config class (class_told some.snapshot.history) (list_at b.sight.seen lock) w moment done some.stretches no_counts h) is some.counted;
+      account = subst (λ (w : Who). Enters Suits w.turn c.sight a.made c.made) is
+          (enters_both Suits who.turn {mid = b.sight} {after = c.sight} a.made b.made c.made some.entered grows
+          (enters_more (IsOfStretches config class []) Suits who.turn {after = c.sight} b.made c.made (in_none config class some.stretches) last));
+      noted = noted;
+    }
+
+-- or before the first
+pub till_none : (config : Config) (class : ClassNo) (before after : PassView) (moment : ℕ) → IsSeenSound config class after.sight → Grows before.sight after.sight → after.made ≡ before.made
+    → after.calls ≡ before.calls ++ crawling_of class moment ∷ [] → IsCrawledTill config class before after moment
+till_none config class before after moment sound grows made noted =
+    let lock = class_lock config class in
+    let whole = sound.history in
+    record {
+      history = whole;
+      begins = subst (IsPrefix (list_at before.sight.seen lock)) sound.now (grows.at lock);
+      links = [];
+      some = (links_of (record (opened config class) { history = whole }), refl);
+      stretches = [];
+      until = class_told whole;
+      now = subst (IsPrefix (class_told whole)) (sym sound.now) (prefix_self (class_told whole));
+      histogram = no_counts;
+      counted = (refl, refl);
+      account = enters_same (IsOfStretches config class []) before.turn before.made after.made made;
+      noted = noted;
+    }

@@ -111,3 +111,17 @@ pub record IsCrawledBy (config : Config) (class : ClassNo) (before after : PassV
   pub counted : AreLinksCounted config class (class_told snapshot.history) (list_at after.sight.seen (class_lock config class)) (next_who before) moment
       snapshot.links stretches no_counts histogram
   pub account : Enters (IsOfStretches config class stretches) before.turn after.sight before.made after.made
+
+-- the same, but a fault ended it: some of the links were counted, and the call was noted
+pub record IsCrawledTill (config : Config) (class : ClassNo) (before after : PassView) (moment : ℕ) : Type 0 where
+  pub history : List ClassEvent
+  pub begins : IsPrefix (list_at before.sight.seen (class_lock config class)) (class_told history)
+  pub links : List Link
+  pub some : IsPrefix links (links_of (record (opened config class) { history = history }))
+  pub stretches : List Stretch
+  pub until : List Event
+  pub now : IsPrefix until (list_at after.sight.seen (class_lock config class))
+  pub histogram : Histogram
+  pub counted : AreLinksCounted config class (class_told history) until (next_who before) moment links stretches no_counts histogram
+  pub account : Enters (IsOfStretches config class stretches) before.turn after.sight before.made after.made
+  pub noted : after.calls ≡ before.calls ++ crawling_of class moment ∷ []

@@ -1,12 +1,12 @@
 //! The crawl of a class that threads share: a snapshot of its links under its lock, then each link under the lock again.
-ghost use Rattle.std.specs.Prelude.{◌≡◌, ◌⊎◌, ◌+◌, ◌-◌, ◌^◌, length, IfErr, IfOk, OnOk, IsErrOf, ◌++◌, ◌∷◌, ◌≤◌, [], OnErr};
+ghost use Rattle.std.specs.Prelude.{◌≡◌, ◌⊎◌, ◌+◌, ◌-◌, ◌^◌, length, IfErr, IfOk, MatchResult, OnOk, IsErrOf, ◌++◌, ◌∷◌, ◌≤◌, [], OnErr};
 ghost use Rattle.mc_item.specs.declared.fault.Fault.TheVariants.{HistoryFull, NoMemory};
 ghost use Rattle.mc_evidence.specs.Setting.{IsClass};
 ghost use Rattle.mc_board.specs.Histories.{list_at};
 ghost use Rattle.mc_pull.specs.Growth as classes;
 ghost use Rattle.mc_crawl.specs.CrawlCount.{IsBalanced, MayCount};
-ghost use Rattle.mc_store.specs.Accounts.{Enters, IsOfStretch, IsOfWalk, StillCalls, Stretch, stretch_of};
-ghost use Rattle.mc_store.specs.Crawls.{CountsOne, HasCountedLink, IsCrawledBy, IsSeenSound, IsSnapshot, MayCrawl};
+ghost use Rattle.mc_store.specs.Accounts.{Enters, IsOfStretch, IsOfStretches, StillCalls, Stretch, stretch_of};
+ghost use Rattle.mc_store.specs.Crawls.{CountsOne, HasCountedLink, IsCrawledBy, IsCrawledTill, IsSeenSound, IsSnapshot, MayCrawl};
 ghost use Rattle.mc_store.specs.{Locked.class_lock, Locked.setting_of, Locked.HasBegunAs};
 ghost use Rattle.mc_store.specs.{Sides.class_told, Serving.IsLater, Serving.IsShortFor, Serving.MayFailSeen, Walking.LeavesTokens, Walking.MayTry};
 ghost use Rattle.mc_store.specs.Walking.{StillWalksFrom, class_sight};
@@ -85,7 +85,8 @@ fn crawl_under<N: Named>(
     requires begun { HasBegunAs N.config class.old.sight call.turn.who call.turn.moment (crawling_of class.old.class.number call.turn.moment) }
     requires caller { call.turn.who.caller ≡ caller.old.number }
     requires counts { MayCount histogram.old }
-    ensures counted { OnOk result (CountsOne N.config class.old.class class.new.class call.entry.turn link histogram.old histogram.new) }
+    ensures counted { MatchResult result (λ done. CountsOne N.config class.old.class class.new.class call.entry.turn link histogram.old histogram.new)
+        (λ fault. class.new.class.history ≡ class.old.class.history) }
     ensures balanced { IsBalanced histogram.old → IsBalanced histogram.new }
     ensures class { classes.GainsEvents class.old.class class.new.class }
     ensures still { StillCalls (IsOfStretch N.config class.old.class.number (stretch_of class.old.class class.new.class)) call.entry.turn.who.turn
@@ -126,7 +127,7 @@ impl<N: Named> Store<N> {
         ensures links { IfOk result (λ links. (snapshot : IsSnapshot N.config class pass.old.sight pass.new.sight (length links.items))
             × (snapshot.links ≡ links.items) × (list_at pass.new.sight.seen (class_lock N.config class) ≡ class_told snapshot.history)) }
         ensures few { IfOk result (λ links. length links.items ≤ 2 ^ 32) }
-        ensures sound { OnOk result (IsSeenSound N.config class pass.new.sight) }
+        ensures sound { IsSeenSound N.config class pass.new.sight }
         ensures grows { IsLater pass.old.sight pass.new.sight }
         ensures same { pass.new ≡ record pass.old { sight = pass.new.sight } }
         ensures memory { IfErr result (λ fault. fault ≡ NoMemory) }
@@ -151,13 +152,14 @@ impl<N: Named> Store<N> {
         requires may { MayCrawl N.config pass.old crawling.class crawling.turn }
         requires counts { MayCount histogram.old }
         ensures balanced { IsBalanced histogram.old → IsBalanced histogram.new }
-        ensures counted { OnOk result ((stretch : Stretch)
+        ensures counted { MatchResult result
+            (λ done. (stretch : Stretch)
             × HasCountedLink N.config crawling.class pass.old.sight pass.new.sight crawling.turn link stretch histogram.old histogram.new
-            × Enters (IsOfStretch N.config crawling.class stretch) crawling.turn.who.turn pass.new.sight pass.old.made pass.new.made) }
+            × Enters (IsOfStretch N.config crawling.class stretch) crawling.turn.who.turn pass.new.sight pass.old.made pass.new.made)
+            (λ fault. Enters (IsOfStretches N.config crawling.class []) crawling.turn.who.turn pass.new.sight pass.old.made pass.new.made) }
         ensures sound { IsSeenSound N.config crawling.class pass.new.sight }
         ensures grows { IsLater pass.old.sight pass.new.sight }
-        ensures same { (pass.new ≡ record pass.old { sight = pass.new.sight; made = pass.new.made })
-            × Enters (IsOfWalk N.config crawling.class) crawling.turn.who.turn pass.new.sight pass.old.made pass.new.made }
+        ensures same { pass.new ≡ record pass.old { sight = pass.new.sight; made = pass.new.made } }
         ensures full { IsErrOf result HistoryFull → IsShortFor N.config crawling.class pass.new.sight }
     {
         let Crawling { alloc, class, turn } = crawling;
@@ -196,10 +198,9 @@ impl<N: Named> Store<N> {
         ensures grows { IsLater pass.old.sight pass.new.sight }
         ensures caller { pass.new.caller ≡ pass.old.caller }
         ensures calls { OnOk result (pass.new.calls ≡ pass.old.calls ++ crawling_of class moment ∷ []) }
-        ensures cut { OnErr result ((pass.new ≡ pass.old) ⊎ (pass.new.calls ≡ pass.old.calls ++ crawling_of class moment ∷ [])) }
+        ensures cut { OnErr result ((pass.new ≡ pass.old) ⊎ IsCrawledTill N.config class pass.old pass.new moment) }
         ensures turn { (pass.new.turn ≡ length (turns_of pass.new.calls)) × OnOk result (pass.new.turn ≡ pass.old.turn + 1) }
         ensures full { IsErrOf result HistoryFull → IsShortFor N.config class pass.new.sight ⊎ (N.config.max_events ≤ pass.old.turn) }
-        ensures account { Enters (IsOfWalk N.config class) pass.old.turn pass.new.sight pass.old.made pass.new.made }
     {
         let event = CallEvent::Crawled(Worked { class, moment });
         let who = pass.take_turn(self, &event)?;

@@ -1,9 +1,9 @@
 use Rattle.std.proofs.Common.{rules, ◌≡◌, ap, ◌∙◌, subst, sym}
-use Rattle.std.specs.Prelude.{OnOk}
+use Rattle.std.specs.Prelude.{MatchResult}
 use Rattle.mc_item.specs.declared.config.Config.{Config}
 use Rattle.mc_segment.specs.ClassState.{ClassView}
 use Rattle.mc_store.specs.{Crawls.CountsOne, Callers.crawling_of, Locked.HasBegunAs, Locked.IsLockedClass, Serving.class_side, Sides.ClassSide}
-use Rattle.mc_store.proofs.{CallerLemmas.begun_as_sees, CrawledLemmas.on_ok_more, GateLemmas.stretch_under, OwnEventLemmas.gains_crawled, OwnEventLemmas.locked_gains}
+use Rattle.mc_store.proofs.{CallerLemmas.begun_as_sees, CrawledLemmas.match_on, CrawledLemmas.on_ok_more, GateLemmas.stretch_under, OwnEventLemmas.gains_crawled, OwnEventLemmas.locked_gains}
 use Rattle.mc_store.proofs.OwnCallLemmas.{may_try_whole}
 use Rattle.mc_store.proofs.crawling.crawl_under.Goals as goal
 
@@ -39,8 +39,11 @@ returns-clause-counted g c =
     let made = c.crawl in
     let of : c.side.inside.state ≡ c.args.class.now.class = ap (λ (x : ClassSide). x.class) (c.side.view_is ∙ c.class.view_is) in
     let with : c.store.inside.config ≡ g.N.Named.config = c.store.invariant.1 in
-    let P : ClassView → Config → Type 0 = λ v config. OnOk made.result (CountsOne config v made.new.class c.args.call.turn c.args.link c.args.histogram.now made.new.histogram) in
-    subst (λ (v : ClassView). P v g.N.Named.config) of (subst (P c.side.inside.state) with made.ensures.counted)
+    let Counts : ClassView → Config → Type 0 = λ v config. CountsOne config v made.new.class c.args.call.turn c.args.link c.args.histogram.now made.new.histogram in
+    let P : ClassView → Config → Type 0 = λ v config. MatchResult made.result (λ done. Counts v config) (λ fault. made.new.class.history ≡ v.history) in
+    subst (λ (v : ClassView). P v g.N.Named.config) of
+    (subst (P c.side.inside.state) with
+    (match_on made.result (Counts c.side.inside.state c.store.inside.config) (made.new.class.history ≡ c.side.inside.state.history) made.ensures.counted made.ensures.err))
 
 pub returns-clause-still : goal.returns-clause-still
 returns-clause-still g c =

@@ -1,6 +1,7 @@
-use Rattle.std.proofs.Common.{refl}
+use Rattle.std.proofs.Common.{⊎_elim, inl, inr, refl}
 use Rattle.mc_script.specs.Exchanges.{Crawls}
-use Rattle.mc_store.specs.{Callers.crawling_of, Passes.next_who}
+use Rattle.mc_store.specs.Callers.{crawling_of}
+use Rattle.mc_store.proofs.SeenStripeLemmas.{on_err_more}
 use Rattle.mc_driver.proofs.{CalledEventLemmas.full_calls, CalledEventLemmas.short_class_any, SharedCallLemmas.call_failed, SharedCallLemmas.goes_on, SharedCallLemmas.crawled_kinds, SharedCallLemmas.crawled_ok}
 use Rattle.mc_driver.proofs.caller.CallerCalls.crawl.Goals as goal
 
@@ -11,14 +12,16 @@ returns-clause-ok g c =
 
 pub returns-clause-kinds : goal.returns-clause-kinds
 returns-clause-kinds g c =
-    crawled_kinds g.N.Named.config c.args.class c.args.self.now.pass.sight c.crawl.new.pass.sight (next_who c.args.self.now.pass) c.args.moment c.crawl.result c.crawl.ensures.crawled
+    crawled_kinds g.N.Named.config c.args.class c.args.self.now.pass c.crawl.new.pass c.args.moment c.crawl.result c.crawl.ensures.crawled
 
 pub returns-clause-err : goal.returns-clause-err
 returns-clause-err g c =
-    call_failed g.N.Named.config c.args.self.now.pass c.crawl.new.pass c.crawl.ensures.caller c.crawl.ensures.grows.seen (Crawls c.args.class) c.args.moment c.crawl.result c.crawl.ensures.cut
+    call_failed g.N.Named.config c.args.self.now.pass c.crawl.new.pass c.crawl.ensures.caller c.crawl.ensures.grows.seen (Crawls c.args.class) c.args.moment c.crawl.result
+    (on_err_more c.crawl.result _ _ (λ cut. ⊎_elim (λ same. inl same) (λ till. inr till.noted) cut) c.crawl.ensures.cut)
 
 pub returns-clause-caller : goal.returns-clause-caller
 returns-clause-caller g c =
     goes_on g.N.Named.config c.args.self.now.pass c.crawl.new.pass c.crawl.result c.requires.may c.crawl.ensures.caller c.crawl.ensures.turn.0
-    (full_calls g.N.Named.config c.args.self.now.pass c.crawl.new.pass (crawling_of c.args.class c.args.moment) c.crawl.result c.requires.may refl c.crawl.ensures.cut
+    (full_calls g.N.Named.config c.args.self.now.pass c.crawl.new.pass (crawling_of c.args.class c.args.moment) c.crawl.result c.requires.may refl
+    (on_err_more c.crawl.result _ _ (λ cut. ⊎_elim (λ same. inl same) (λ till. inr till.noted) cut) c.crawl.ensures.cut)
     (short_class_any g.N.Named.config c.args.self.now.pass c.crawl.new.pass c.args.class c.crawl.result c.crawl.ensures.full))

@@ -1,6 +1,7 @@
-use Rattle.std.proofs.Common.{refl}
+use Rattle.std.proofs.Common.{⊎_elim, inl, inr, refl}
 use Rattle.mc_script.specs.Exchanges.{Juggles}
 use Rattle.mc_store.specs.Callers.{juggling_of}
+use Rattle.mc_store.proofs.SeenStripeLemmas.{on_err_of}
 use Rattle.mc_driver.proofs.{CalledEventLemmas.full_calls, CalledEventLemmas.short_class_any, SharedCallLemmas.call_failed, SharedCallLemmas.goes_on, SharedCallLemmas.juggled_ok}
 use Rattle.mc_driver.proofs.caller.CallerCalls.juggle.Goals as goal
 
@@ -11,10 +12,12 @@ returns-clause-ok g c =
 
 pub returns-clause-err : goal.returns-clause-err
 returns-clause-err g c =
-    call_failed g.N.Named.config c.args.self.now.pass c.juggle.new.pass c.juggle.ensures.caller c.juggle.ensures.grows.seen (Juggles c.args.class) c.args.moment c.juggle.result c.juggle.ensures.cut
+    call_failed g.N.Named.config c.args.self.now.pass c.juggle.new.pass c.juggle.ensures.caller c.juggle.ensures.grows.seen (Juggles c.args.class) c.args.moment c.juggle.result
+    (on_err_of c.juggle.result _ _ (λ fault cut. ⊎_elim (λ same. inl same) (λ till. inr till.noted) cut) c.juggle.ensures.cut)
 
 pub returns-clause-caller : goal.returns-clause-caller
 returns-clause-caller g c =
     goes_on g.N.Named.config c.args.self.now.pass c.juggle.new.pass c.juggle.result c.requires.may c.juggle.ensures.caller c.juggle.ensures.turn.0
-    (full_calls g.N.Named.config c.args.self.now.pass c.juggle.new.pass (juggling_of c.args.class c.args.moment) c.juggle.result c.requires.may refl c.juggle.ensures.cut
+    (full_calls g.N.Named.config c.args.self.now.pass c.juggle.new.pass (juggling_of c.args.class c.args.moment) c.juggle.result c.requires.may refl
+    (on_err_of c.juggle.result _ _ (λ fault cut. ⊎_elim (λ same. inl same) (λ till. inr till.noted) cut) c.juggle.ensures.cut)
     (short_class_any g.N.Named.config c.args.self.now.pass c.juggle.new.pass c.args.class c.juggle.result c.juggle.ensures.full))

@@ -1,14 +1,13 @@
-use Rattle.std.proofs.Common.{◌++◌, ◌∷◌, [], ◌≡◌, ◌+◌, ℕ, ap, ◌∙◌, length, refl, subst, sym, inr, take, arith}
+use Rattle.std.proofs.Common.{◌++◌, ◌∷◌, [], ◌≡◌, ◌+◌, ℕ, ap, ◌∙◌, length, refl, subst, sym, inr, drop, take, arith}
 use Rattle.std.proofs.Math.Seq.{take-length}
-use Rattle.std.proofs.lemmas.List.{take_more}
+use Rattle.std.proofs.lemmas.List.{take-append-drop, take_more}
 use Rattle.mc_item.specs.Counts.{no_counts}
 use Rattle.mc_item.specs.declared.{counts.Histogram.Histogram, item.Link.Link, item.Who.Who}
 use Rattle.mc_board.specs.Histories.{list_at}
 use Rattle.mc_crawl.specs.CrawlCount.{IsBalanced}
 use Rattle.mc_store.specs.Crawls.{IsSnapshot, ShowsReclaims}
-use Rattle.mc_store.specs.{Accounts.Enters, Accounts.IsOfWalk, Locked.class_lock, Passes.PassView, Serving.IsLater, Sides.class_told, Callers.crawling_of}
-use Rattle.mc_store.proofs.AccountLemmas.{enters_both, enters_same}
-use Rattle.mc_store.proofs.CrawledLemmas.{CountsSoFar, shows_both, shows_none, so_far_all, so_far_more, so_far_none}
+use Rattle.mc_store.specs.{Locked.class_lock, Passes.PassView, Serving.IsLater, Sides.class_told, Callers.crawling_of}
+use Rattle.mc_store.proofs.CrawledLemmas.{CountsSoFar, shows_both, shows_none, so_far_all, so_far_more, so_far_none, so_far_till, till_none}
 use Rattle.mc_store.proofs.{SeenStripeLemmas.on_err_always, SeenStripeLemmas.called_now}
 use Rattle.mc_store.proofs.LaterLemmas.{later_trans}
 use Rattle.mc_store.proofs.{CallerLemmas.on_ok_always, NextTurnLemmas.turn_called}
@@ -38,16 +37,33 @@ loop-i-init g c =
       ap (λ (p : PassView). p.turn) c.snapshot_of.ensures.same ∙ ap (λ (p : PassView). p.turn) turn,
       c.in_ok-who.ensures.took.who,
       ap (λ (p : PassView). p.calls) c.snapshot_of.ensures.same ∙ ap (λ (p : PassView). p.calls) turn,
-      c.in_ok-links.ensures.sound,
+      c.snapshot_of.ensures.sound,
       ap (λ (p : PassView). p.hands) c.snapshot_of.ensures.same ∙ ap (λ (p : PassView). p.hands) turn,
-      enters_same (IsOfWalk config c.args.class) c.in_ok-who.who.turn pass.made c.snapshot_of.new.pass.made same,
     )
 
 pub returns-in_err-crawl_link-clause-grows : goal.returns-in_err-crawl_link-clause-grows
 returns-in_err-crawl_link-clause-grows g c = later_trans c.args.pass.now.sight c.loop-i.pass.sight c.crawl_link.new.pass.sight c.loop-i.invariant.4 c.crawl_link.ensures.grows
 
 pub returns-in_err-crawl_link-clause-cut : goal.returns-in_err-crawl_link-clause-cut
-returns-in_err-crawl_link-clause-cut g c = on_err_always c.from_residual-in_err-crawl_link.result (inr (ap (λ (p : PassView). p.calls) c.crawl_link.ensures.same.0 ∙ c.loop-i.invariant.8))
+returns-in_err-crawl_link-clause-cut g c =
+    let i = c.loop-i.invariant in
+    let links = c.in_ok-links.links.items in
+    let new = c.crawl_link.new.pass in
+    on_err_always c.from_residual-in_err-crawl_link.result
+    (inr (so_far_till g.N.Named.config c.args.class c.args.pass.now c.loop-i.pass new c.in_ok-who.who c.args.moment links (take c.loop-i.i links) c.loop-i.histogram i.3 i.7
+    (drop c.loop-i.i links, take-append-drop c.loop-i.i links) c.crawl_link.ensures.grows.seen c.in_err-crawl_link.ensures.counted
+    (ap (λ (p : PassView). p.calls) c.crawl_link.ensures.same ∙ i.8)))
+
+pub returns-in_err-links-clause-cut : goal.returns-in_err-links-clause-cut
+returns-in_err-links-clause-cut g c =
+    let old = c.args.pass.now in
+    let new = c.snapshot_of.new.pass in
+    let took = c.in_ok-who.ensures.took.turn in
+    let same = c.snapshot_of.ensures.same in
+    let later : IsLater old.sight new.sight = subst (λ (p : PassView). IsLater p.sight new.sight) took c.snapshot_of.ensures.grows in
+    on_err_always c.from_residual-in_err-links.result
+    (inr (till_none g.N.Named.config c.args.class old new c.args.moment c.snapshot_of.ensures.sound later.seen (ap (λ (p : PassView). p.made) same ∙ ap (λ (p : PassView). p.made) took)
+    (ap (λ (p : PassView). p.calls) same ∙ ap (λ (p : PassView). p.calls) took)))
 
 pub crawl_link-requires-clause-may : goal.crawl_link-requires-clause-may
 crawl_link-requires-clause-may g c =
@@ -77,14 +93,12 @@ loop-i-preserved g c =
           (ap (λ (l : Link). take c.loop-i.i c.in_ok-links.links.items ++ l ∷ []) c.index.ensures
           ∙ sym (take_more c.in_ok-links.links.items c.loop-i.i c.index.result.now (omega (arith, c.loop-i-test.true, c.len-i-end.ensures)))),
       later_trans pass.sight c.loop-i.pass.sight new.sight i.4 c.crawl_link.ensures.grows,
-      ap (λ (p : PassView). p.caller) c.crawl_link.ensures.same.0 ∙ i.5,
-      ap (λ (p : PassView). p.turn) c.crawl_link.ensures.same.0 ∙ i.6,
+      ap (λ (p : PassView). p.caller) c.crawl_link.ensures.same ∙ i.5,
+      ap (λ (p : PassView). p.turn) c.crawl_link.ensures.same ∙ i.6,
       i.7,
-      ap (λ (p : PassView). p.calls) c.crawl_link.ensures.same.0 ∙ i.8,
+      ap (λ (p : PassView). p.calls) c.crawl_link.ensures.same ∙ i.8,
       c.crawl_link.ensures.sound,
-      ap (λ (p : PassView). p.hands) c.crawl_link.ensures.same.0 ∙ i.10,
-      enters_both (IsOfWalk config c.args.class) c.in_ok-who.who.turn {mid = c.loop-i.pass.sight} {after = new.sight} pass.made c.loop-i.pass.made new.made i.11 c.crawl_link.ensures.grows.seen
-          c.crawl_link.ensures.same.1,
+      ap (λ (p : PassView). p.hands) c.crawl_link.ensures.same ∙ i.10,
     )
 
 pub returns-clause-crawled : goal.returns-clause-crawled
@@ -105,7 +119,7 @@ pub returns-clause-hands : goal.returns-clause-hands
 returns-clause-hands g c = c.loop-i.invariant.10
 
 pub returns-in_err-crawl_link-clause-hands : goal.returns-in_err-crawl_link-clause-hands
-returns-in_err-crawl_link-clause-hands g c = ap (λ (p : PassView). p.hands) c.crawl_link.ensures.same.0 ∙ c.loop-i.invariant.10
+returns-in_err-crawl_link-clause-hands g c = ap (λ (p : PassView). p.hands) c.crawl_link.ensures.same ∙ c.loop-i.invariant.10
 
 pub returns-in_err-links-clause-hands : goal.returns-in_err-links-clause-hands
 returns-in_err-links-clause-hands g c = ap (λ (p : PassView). p.hands) c.snapshot_of.ensures.same ∙ ap (λ (p : PassView). p.hands) c.in_ok-who.ensures.took.turn
@@ -125,7 +139,7 @@ pub returns-in_err-crawl_link-clause-turn : goal.returns-in_err-crawl_link-claus
 returns-in_err-crawl_link-clause-turn g c =
     let old = c.args.pass.now in
     let i = c.loop-i.invariant in
-    let same = c.crawl_link.ensures.same.0 in
+    let same = c.crawl_link.ensures.same in
     let turn : c.crawl_link.new.pass.turn ≡ old.turn + 1 = ap (λ (p : PassView). p.turn) same ∙ i.6 in (
       turn_called old.calls c.crawl_link.new.pass.calls old.turn c.crawl_link.new.pass.turn c.args.moment (crawling_of c.args.class c.args.moment) turn
           (ap (λ (p : PassView). p.calls) same ∙ i.8) refl c.in_ok-who.ensures.turns,
@@ -137,28 +151,3 @@ returns-clause-turn g c =
     let old = c.args.pass.now in
     let i = c.loop-i.invariant in
     (turn_called old.calls c.loop-i.pass.calls old.turn c.loop-i.pass.turn c.args.moment (crawling_of c.args.class c.args.moment) i.6 i.8 refl c.in_ok-who.ensures.turns, i.6)
-
-pub returns-clause-account : goal.returns-clause-account
-returns-clause-account g c =
-    let i = c.loop-i.invariant in
-    subst (λ (who : Who). Enters (IsOfWalk g.N.Named.config c.args.class) who.turn c.loop-i.pass.sight c.args.pass.now.made c.loop-i.pass.made) i.7 i.11
-
-pub returns-in_err-crawl_link-clause-account : goal.returns-in_err-crawl_link-clause-account
-returns-in_err-crawl_link-clause-account g c =
-    let i = c.loop-i.invariant in
-    let Suits = IsOfWalk g.N.Named.config c.args.class in
-    let old = c.args.pass.now.made in
-    let new = c.crawl_link.new.pass in
-    subst (λ (who : Who). Enters Suits who.turn new.sight old new.made) i.7
-    (enters_both Suits c.in_ok-who.who.turn {mid = c.loop-i.pass.sight} {after = new.sight} old c.loop-i.pass.made new.made i.11 c.crawl_link.ensures.grows.seen c.crawl_link.ensures.same.1)
-
-pub returns-in_err-links-clause-account : goal.returns-in_err-links-clause-account
-returns-in_err-links-clause-account g c =
-    let old = c.args.pass.now in
-    enters_same (IsOfWalk g.N.Named.config c.args.class) old.turn old.made c.snapshot_of.new.pass.made
-    (ap (λ (p : PassView). p.made) c.snapshot_of.ensures.same ∙ ap (λ (p : PassView). p.made) c.in_ok-who.ensures.took.turn)
-
-pub returns-in_err-who-clause-account : goal.returns-in_err-who-clause-account
-returns-in_err-who-clause-account g c =
-    let old = c.args.pass.now in
-    enters_same (IsOfWalk g.N.Named.config c.args.class) old.turn old.made c.take_turn.new.self.made (ap (λ (p : PassView). p.made) c.in_err-who.ensures.err)

@@ -1,6 +1,6 @@
 use Rattle.std.proofs.Common.{◌≡◌, ◌+◌, ◌++◌, ◌∷◌, [], take}
 use Rattle.mc_crawl.specs.CrawlCount.{IsBalanced}
-use Rattle.mc_store.specs.{Accounts.Enters, Accounts.IsOfWalk, Callers.crawling_of, Crawls.IsSeenSound, Crawls.ShowsReclaims, Passes.next_who, Serving.IsLater}
+use Rattle.mc_store.specs.{Callers.crawling_of, Crawls.IsSeenSound, Crawls.ShowsReclaims, Passes.next_who, Serving.IsLater}
 use Rattle.mc_store.proofs.CrawledLemmas.{CountsSoFar}
 use Rattle.mc_store.proofs.store.Store.crawl.Given as goal
 
@@ -12,4 +12,3 @@ invariant-loop-i g l =
     × IsLater l.fn.pass.sight l.pass.sight × (l.pass.caller ≡ l.fn.pass.caller) × (l.pass.turn ≡ l.fn.pass.turn + 1) × (l.who ≡ next_who l.fn.pass)
     × (l.pass.calls ≡ l.fn.pass.calls ++ crawling_of l.class l.moment ∷ [])
     × IsSeenSound g.N.Named.config l.class l.pass.sight × (l.pass.hands ≡ l.fn.pass.hands)
-    × Enters (IsOfWalk g.N.Named.config l.class) l.who.turn l.pass.sight l.fn.pass.made l.pass.made

@@ -1,5 +1,5 @@
-use Rattle.std.proofs.Common.{length, List, ◌≡◌, ap, ◌∙◌, subst, sym}
-use Rattle.std.specs.Prelude.{OnOk}
+use Rattle.std.proofs.Common.{length, [], List, ◌≡◌, ap, ◌∙◌, subst, sym}
+use Rattle.std.specs.Prelude.{MatchResult}
 use Rattle.mc_board.specs.Histories.{Grows, list_at}
 use Rattle.mc_board.specs.declared.rule.Sight.{Sight}
 use Rattle.mc_segment.specs.ClassState.{ClassView}
@@ -7,14 +7,14 @@ use Rattle.mc_pull.specs.Growth as classes
 use Rattle.mc_item.specs.declared.{call_event.CallEvent.CallEvent, item.ClassNo.ClassNo}
 use Rattle.mc_store.specs.{Callers.crawling_of, Crawls.CountsOne, Crawls.HasCountedLink, Finals.IsBehindAt, Locked.HasBegunAs}
 use Rattle.mc_store.specs.{Locked.IsHeldClass, Passes.PassView, Passes.HasCalled, Passes.caller_of, Sides.ClassSide, Sides.class_told}
-use Rattle.mc_store.proofs.{CrawledLemmas.link_entered, CrawledLemmas.link_seen, CrawledLemmas.on_ok_more, GrownClassLemmas.class_grew, GrownClassLemmas.fails_full}
+use Rattle.mc_store.proofs.{CrawledLemmas.enters_no_link, CrawledLemmas.link_entered, CrawledLemmas.link_seen, CrawledLemmas.match_ends, GrownClassLemmas.class_grew, GrownClassLemmas.fails_full}
 use Rattle.mc_store.proofs.GrownClassLemmas.{class_shared, seen_sound}
 use Rattle.mc_board.specs.Views.{SeenView}
 use Rattle.mc_evidence.specs.Seen.{stripes_seen}
 use Rattle.mc_hits.specs.Rule.{AreBefore}
-use Rattle.mc_store.specs.{Accounts.Enters, Accounts.IsOfStretch, Accounts.IsOfWalk, Accounts.StillCalls, Accounts.Stretch, Accounts.stretch_of}
+use Rattle.mc_store.specs.{Accounts.Enters, Accounts.IsOfStretch, Accounts.IsOfStretches, Accounts.StillCalls, Accounts.Stretch, Accounts.stretch_of}
 use Rattle.mc_store.specs.{Callers.placed_in, Callers.turns_of, Passes.CallerView, Walking.class_sight}
-use Rattle.mc_store.proofs.{AccountLemmas.enters_later, AccountLemmas.still_anywhere, AccountLemmas.still_pass, PlacedLemmas.placed_same, PlacedLemmas.placed_sees}
+use Rattle.mc_store.proofs.{AccountLemmas.still_pass, PlacedLemmas.placed_same, PlacedLemmas.placed_sees}
 use Rattle.mc_store.proofs.store.Store.crawl_link.Goals as goal
 
 pub returns-clause-full : goal.returns-clause-full
@@ -105,37 +105,25 @@ returns-clause-counted g c =
     let entered : Enters (IsOfStretch config class (stretch_of old.class new.class)) turn.who.turn after pass.made made =
     link_entered config class turn.who.turn {mid = class_sight config new} {after = after} c.tell_class.new.class.class old.class new.class c.tell_class.new.self.made pass.made made cls number first_made
     (class_shared table config new after new_kept told all) c.crawl_under-done.ensures.still.enters in
-    on_ok_more c.crawl_under-done.result (P old.class)
+    match_ends c.crawl_under-done.result (P old.class)
     ((stretch : Stretch) × HasCountedLink config class pass.sight after turn c.args.link stretch first last × Enters (IsOfStretch config class stretch) turn.who.turn after pass.made made)
+    (new.class.history ≡ old.class.history) (Enters (IsOfStretches config class []) turn.who.turn after pass.made made)
     (λ counts. (stretch_of old.class new.class, link_seen config class pass.sight after turn c.args.link first last old.class new.class grew counts, entered))
-    (subst (λ (v : ClassView). OnOk c.crawl_under-done.result (P v)) cls c.crawl_under-done.ensures.counted)
+    (λ same. enters_no_link config class turn.who.turn {after = after} old.class new.class pass.made made same entered)
+    (subst (λ (v : ClassView). MatchResult c.crawl_under-done.result (λ done. P v) (λ fault. new.class.history ≡ v.history)) cls c.crawl_under-done.ensures.counted)
 
 pub returns-clause-same : goal.returns-clause-same
 returns-clause-same g c =
     let config = g.N.Named.config in
-    let same : c.compare.new.self ≡ c.own.inside.side = c.compare.ensures.same.0 in
-    let number : c.tell_class.new.class.class.number ≡ c.args.crawling.class =
-    ap (λ (x : ClassSide). x.class.number) c.tell_class.ensures.class ∙ (ap (λ (x : ClassSide). x.class.number) (same ∙ (c.own.view_is ∙ c.deref_mut-own.ensures.value)) ∙ c.lock_class-guard.ensures) in
-    let Suits = IsOfWalk config c.args.crawling.class in
     let turn = c.args.crawling.turn.who.turn in
+    let told = c.tell_class.new.class in
     let old = c.pass.inside.caller in
     let last = c.crawl_under-done.new.caller in
     let new = c.crawl_under-done.new.class in
-    let new_kept : IsHeldClass g.N.Named.board.table config new = subst (IsHeldClass g.N.Named.board.table config) c.own-2.view_is c.own-2.invariant.held in
-    let whole : list_at c.share.new.seen.sight.seen new.lock ≡ class_told new.class.history =
-    subst (λ (x : ClassSide). list_at c.share.new.seen.sight.seen x.lock ≡ class_told x.class.history) c.own-2.view_is c.share.ensures.told in
-    let all : Grows new.sight c.share.new.seen.sight = subst (λ (x : ClassSide). Grows x.sight c.share.new.seen.sight) c.own-2.view_is c.share.ensures.all in
-    let told = c.tell_class.new.class.class in
-    let first = class_sight config c.tell_class.new.class in
-    let still : StillCalls Suits turn first (class_sight config new) old last =
-    subst (λ (k : CallerView). StillCalls Suits turn first (class_sight config new) k last) c.tell_class.ensures.same
-    (subst (λ (n : ClassNo). StillCalls (IsOfWalk config n) turn first (class_sight config new) c.tell_class.new.self last) number
-    (still_anywhere config told.number (stretch_of told new.class) turn {x = first} {y = class_sight config new} c.tell_class.new.self last c.crawl_under-done.ensures.still)) in (
-      still_pass Suits turn {x = first} {y = class_sight config new} old last c.pass.inside.seen.sight c.share.new.seen.sight c.pass.inside.hands c.args.pass.now still c.pass.view_is,
-      subst (λ (p : PassView). Enters Suits turn c.share.new.seen.sight p.made last.made) c.pass.view_is
-          (enters_later Suits turn {mid = class_sight config new} {after = c.share.new.seen.sight} old.made last.made
-          (class_shared g.N.Named.board.table config new c.share.new.seen.sight new_kept whole all) still.enters),
-    )
+    let Suits = IsOfStretch config told.class.number (stretch_of told.class new.class) in
+    let first = class_sight config told in
+    let still = subst (λ (k : CallerView). StillCalls Suits turn first (class_sight config new) k last) c.tell_class.ensures.same c.crawl_under-done.ensures.still in
+    still_pass Suits turn {x = first} {y = class_sight config new} old last c.pass.inside.seen.sight c.share.new.seen.sight c.pass.inside.hands c.args.pass.now still c.pass.view_is
 
 pub invariant_of-pass : goal.invariant_of-pass
 invariant_of-pass g c =
