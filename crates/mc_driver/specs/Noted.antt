@@ -17,8 +17,8 @@ use Rattle.mc_evidence.specs.{Refusals.WasTried, Setting.IsClass, Setting.site_i
 use Rattle.mc_crawl.specs.{CrawlCount.IsBalanced, Snapshot.links_of}
 use Rattle.mc_item.specs.Counts.{no_counts}
 use Rattle.mc_item.specs.declared.reply.Room.TheVariants as rooms
-use Rattle.mc_store.specs.{Accounts.Stretch, Callers.HasNoneOf, Commands.LeadsUp, Crawls.AreLinksCounted, Crawls.HasReclaims, Earned.IsLastResort, Hits.AreAdvanced}
-use Rattle.mc_store.specs.{Locked.setting_of, Made.HasNoneMadeBy, Sides.class_told}
+use Rattle.mc_store.specs.{Accounts.Stretch, Callers.HasNoneOf, Commands.LeadsUp, Crawls.AreLinksCounted, Crawls.HasReclaims}
+use Rattle.mc_store.specs.{Earned.IsLastResort, Hits.AreAdvanced, Locked.setting_of, Made.HasNoneMadeBy, Sides.class_told}
 use Rattle.mc_stripe.specs.StripeState.{Stripe, stripe}
 
 -- an answered command as an exchange, without its room (the link or the refusal that it was given)

@@ -138,7 +138,8 @@ counts_one config c c_new turn link xs ys h h_new (Err f) made = tt
 
 -- a link was counted under the lock
 pub link_counted : (config : Config) (class : ClassNo) (before after : Sight) (who : Who) (moment : ℕ) (link : Link) (h h_new : Histogram) (c c_new : ClassView) → IsSeenGrowOf config class before after c c_new.history
-    → CountsLink config c c_new who moment link h h_new → IsLinkCounted config class (list_at before.seen (class_lock config class)) (list_at after.seen (class_lock config class)) who moment link (stretch_of c c_new) h h_new
+    → CountsLink config c c_new who moment link h h_new
+    → IsLinkCounted config class (list_at before.seen (class_lock config class)) (list_at after.seen (class_lock config class)) who moment link (stretch_of c c_new) h h_new
 link_counted config class before after who moment link h h_new c c_new grew counts = record {
   old = c;
   new = c_new;

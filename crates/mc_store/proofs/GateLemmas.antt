@@ -17,7 +17,8 @@ use Rattle.mc_board.proofs.{AccountLemmas.are_by_gained, AccountLemmas.are_by_on
 use Rattle.mc_board.proofs.SeenLemmas.{list_at_other, list_at_same}
 use Rattle.mc_pull.specs.declared.{context.Context.Context, looking.Answer.Answer, looking.Judged.Judged}
 use Rattle.mc_pull.specs.{Lone.AreMadeBy, Lone.StripeGrows, Looks.IsAnswered, Looks.answer_by, Question.IsClassOf, Question.Question, Settled.class_with, Walker.Walker}
-use Rattle.mc_store.specs.{Accounts.IsOfStretch, Accounts.IsOfWalk, Accounts.StillCalls, Accounts.stretch_of, Locked.class_lock, Locked.setting_of, Passes.CallerView, Serving.IsServed, Serving.IsShortFor, Serving.MayFailSeen}
+use Rattle.mc_store.specs.Accounts.{IsOfStretch, IsOfWalk, StillCalls, stretch_of}
+use Rattle.mc_store.specs.{Locked.class_lock, Locked.setting_of, Passes.CallerView, Serving.IsServed, Serving.IsShortFor, Serving.MayFailSeen}
 use Rattle.mc_store.specs.{Sides.ClassSide, Sides.StripeSide, Sides.class_told, Sides.stripe_sight, Sides.stripe_told, Walking.MayTry, Walking.StillWalks, Walking.StillWalksFrom, Walking.class_sight}
 use Rattle.mc_store.specs.{Accounts.Stretch, Walking.with_class}
 use Rattle.mc_store.proofs.AccountLemmas.{enters_later, grows_itself, still_both, still_longer, still_none, still_seen, still_walked, whole_grows, whole_shared}

@@ -34,7 +34,8 @@ use Rattle.mc_store.specs.{
   Locked.class_lock,
 }
 use Rattle.mc_store.specs.Locked.{setting_of}
-use Rattle.mc_store.specs.{Hits.IsAdvancedBy, Hits.IsAdvancedTill, Hits.queue_of, Made.HasNoneMadeBy, Passes.PassView, Passes.next_who, Sides.class_told, Sides.stripe_told}
+use Rattle.mc_store.specs.Hits.{IsAdvancedBy, IsAdvancedTill, queue_of}
+use Rattle.mc_store.specs.{Made.HasNoneMadeBy, Passes.PassView, Passes.next_who, Sides.class_told, Sides.stripe_told}
 use Rattle.mc_store.specs.Waking.{MakesActive}
 use Rattle.mc_hits.specs.Views.{HandsView}
 use Rattle.mc_stripe.specs.declared.trying.Turn.{Turn}

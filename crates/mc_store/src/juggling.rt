@@ -3,7 +3,8 @@ ghost use Rattle.std.specs.Prelude.{◌≡◌, ◌≤◌, ◌⊎◌, ◌+◌, �
 ghost use Rattle.mc_item.specs.declared.fault.Fault.TheVariants.{HistoryFull};
 ghost use Rattle.mc_evidence.specs.Setting.{IsClass};
 ghost use Rattle.mc_store.specs.Accounts.{Enters, IsOfWalk};
-ghost use Rattle.mc_store.specs.{Callers.juggling_of, Callers.turns_of, Calls.IsJuggledBy, Calls.IsJuggledTill, Hits.Takes, Hits.queue_of, Locked.setting_of, Serving.IsShortFor};
+ghost use Rattle.mc_store.specs.{Callers.juggling_of, Callers.turns_of, Calls.IsJuggledBy, Calls.IsJuggledTill};
+ghost use Rattle.mc_store.specs.{Hits.Takes, Hits.queue_of, Locked.setting_of, Serving.IsShortFor};
 ghost use Rattle.mc_store.specs.Serving.{IsLater};
 
 use crate::named::Named;

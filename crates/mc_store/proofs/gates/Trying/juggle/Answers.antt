@@ -43,7 +43,8 @@ returns-clause-juggle g c =
     let before = c.args.class.now.history in
     let after = c.juggle-moves.new.class.history in
     match_both c.juggle-moves.result _ (λ (moves : Moves). (xs : List Answer) × IsJuggle r before xs after moves) _ (λ (fault : Fault). IsJuggleCut r fault before after) (λ moves made. (made.0, made.2))
-    (λ fault broken. breaks_any r (MayFailSeen g.N.Named.config c.juggle-moves.new.gate.seen.now.sight c.juggle-moves.new.class) fault before after broken.0 broken.2) c.juggle-moves.ensures.juggle c.juggle-moves.ensures.err
+    (λ fault broken. breaks_any r (MayFailSeen g.N.Named.config c.juggle-moves.new.gate.seen.now.sight c.juggle-moves.new.class) fault before after broken.0 broken.2)
+    c.juggle-moves.ensures.juggle c.juggle-moves.ensures.err
 
 pub catch_up_class-requires-clause-by : goal.catch_up_class-requires-clause-by
 catch_up_class-requires-clause-by g c =
