@@ -129,7 +129,7 @@ pub(crate) fn cases() -> &'static [(&'static str, Call)] {
     CASES.as_slice()
 }
 
-static CASES: [(&str, Call); 64] = [
+static CASES: [(&str, Call); 66] = [
     ("key", Make(Plain::MakeKey)),
     ("copy_of_a_key", Make(Plain::CopyKey)),
     ("copy_of_a_command", Make(Plain::CopyCommand)),
@@ -144,6 +144,7 @@ static CASES: [(&str, Call); 64] = [
     ("fault_text", Write(Text::Fault)),
     ("moves_text", Write(Text::Moves)),
     ("histogram_text", Write(Text::Histogram)),
+    ("chunks_text", Write(Text::Chunks)),
     ("feed_of_a_line", Read("get a", Lent(LINES))),
     ("feed_of_a_block", Read(BEGUN, Lent(BLOCK))),
     ("take_of_a_line", Read("get a", Given(LINES))),
@@ -195,6 +196,7 @@ static CASES: [(&str, Call); 64] = [
     ("store_set_for_a_chunk", Shared(FULL_SHARED, SET_SHARED)),
     ("store_juggle", Shared(FULL_SHARED, Called::Juggle)),
     ("store_crawl", Shared(DYING_SHARED, Called::Crawl)),
+    ("store_chunks", Shared(&[SET_SHARED], Called::Limit)),
     ("run_script", RunOne),
     ("run_scripts", RunTwo),
 ];

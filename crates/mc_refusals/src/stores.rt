@@ -26,6 +26,8 @@ pub(crate) enum Called {
     Juggle,
     /// The class is crawled at 1001.
     Crawl,
+    /// The class's limit becomes two chunks.
+    Limit,
 }
 
 const LATER: u64 = 1001;
@@ -128,6 +130,15 @@ fn crawl<N: Named>(rt: &impl Wait, store: &Store<N>, pass: &mut Pass<N>, marks: 
     end_of(counts)
 }
 
+fn limit<N: Named>(rt: &impl Wait, store: &Store<N>, pass: &mut Pass<N>, marks: Marks) -> End
+    requires class { 0 < length N.config.sizes }
+{
+    marks.begin();
+    let done = store.chunks(rt, pass, ClassNo(1), 2);
+    marks.end();
+    end_of(done)
+}
+
 fn make<N: Named>(
     rt: &impl Wait,
     store: &Store<N>,
@@ -141,6 +152,7 @@ fn make<N: Named>(
         Called::Command(letter, asked) => ask_of(rt, store, pass, letter, asked, marks),
         Called::Juggle => juggle(rt, store, pass, marks),
         Called::Crawl => crawl(rt, store, pass, marks),
+        Called::Limit => limit(rt, store, pass, marks),
     }
 }
 

@@ -2,9 +2,11 @@
 use crate::asking::{key_of, value_of};
 use crate::end::{End, end_by, end_if};
 use crate::marks::Marks;
-use mc_item::{Histogram, Key, Moves, Reply};
+use mc_item::{ClassNo, Histogram, Key, Moves, Reply};
 use mc_options::read_words;
-use mc_proto::{LineFault, fault_text, histogram_text, moves_text, reply_text, value_text};
+use mc_proto::{
+    LineFault, chunks_text, fault_text, histogram_text, moves_text, reply_text, value_text,
+};
 use std::alloc::Global;
 
 /// A text.
@@ -15,6 +17,7 @@ pub(crate) enum Text {
     Fault,
     Moves,
     Histogram,
+    Chunks,
     Words,
 }
 
@@ -73,6 +76,13 @@ fn write_histogram(alloc: Global, marks: Marks) -> End {
     end_by(text)
 }
 
+fn write_chunks(alloc: Global, marks: Marks) -> End {
+    marks.begin();
+    let text = chunks_text(alloc, ClassNo(1), 2);
+    marks.end();
+    end_by(text)
+}
+
 // Words that are refused for want of memory are refused in no other way.
 fn read_options(alloc: Global, marks: Marks) -> End {
     let words = ["mcseg", "--stripes", "4", "--sizes", "96,200"];
@@ -90,6 +100,7 @@ pub(crate) fn write(alloc: Global, text: Text, marks: Marks) -> End {
         Text::Fault => write_fault(alloc, marks),
         Text::Moves => write_moves(alloc, marks),
         Text::Histogram => write_histogram(alloc, marks),
+        Text::Chunks => write_chunks(alloc, marks),
         Text::Words => read_options(alloc, marks),
     }
 }
