@@ -9,8 +9,8 @@ use Rattle.mc_board.specs.{Accounts.IsEntered, Accounts.with_new, Accounts.with_
 use Rattle.mc_board.specs.declared.{rule.Sight.Sight, rule.Span.Span}
 use Rattle.mc_board.proofs.{AccountLemmas.get_either, AccountLemmas.get_longer, PrefixLemmas.prefix_self, PrefixLemmas.same_or_not}
 use Rattle.mc_board.proofs.SeenLemmas.{Grows-trans, list_at_other, list_at_same}
-use Rattle.mc_store.specs.{Accounts.Enters, Accounts.IsOfStretch, Accounts.IsOfWalk, Accounts.StillCalls, Accounts.Stretch, Callers.IsBegunAs, Callers.IsUnanswered}
-use Rattle.mc_store.specs.{Locked.class_lock, Passes.CallerView, Passes.HasAsked, Passes.HasCalled, Passes.PassView, Passes.pass_of}
+use Rattle.mc_store.specs.{Accounts.Enters, Accounts.IsOfStretch, Accounts.IsOfWalk, Accounts.StillCalls, Accounts.Stretch}
+use Rattle.mc_store.specs.{Locked.class_lock, Passes.CallerView, Passes.HasAsked, Passes.PassView, Passes.pass_of}
 
 -- ---- places that were seen
 
@@ -226,19 +226,6 @@ still_asked Suits turn caller caller_new who command moment still asked = record
   last = still.calls_are ∙ asked.last;
   turn = asked.turn;
 }
-
--- a call that had begun has begun still
-pub still_called : (Suits : (lock place : ℕ) → Event → Type 0) (turn : ℕ) {x y : Sight} (caller caller_new : CallerView) (who : Who) (moment : ℕ) (call : CallEvent)
-    → StillCalls Suits turn x y caller caller_new → HasCalled caller who moment call → HasCalled caller_new who moment call
-still_called Suits turn caller caller_new who moment call still called = record {
-  number = called.number ∙ sym still.number_is;
-  begun = subst (λ (calls : List CallEvent). IsBegunAs calls who.turn moment call) (sym still.calls_are) called.begun;
-}
-
--- a call that wasn't answered isn't answered yet
-pub still_unanswered : (Suits : (lock place : ℕ) → Event → Type 0) (turn : ℕ) {x y : Sight} (caller caller_new : CallerView) → StillCalls Suits turn x y caller caller_new → IsUnanswered caller.calls
-    → IsUnanswered caller_new.calls
-still_unanswered Suits turn caller caller_new still unanswered = subst IsUnanswered (sym still.calls_are) unanswered
 
 -- the pass of a caller whose call goes on, with another sight
 pub still_pass : (Suits : (lock place : ℕ) → Event → Type 0) (turn : ℕ) {x y : Sight} (caller caller_new : CallerView) (sight sight_new : Sight) (hands : HandsView) (pass : PassView)

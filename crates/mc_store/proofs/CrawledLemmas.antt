@@ -94,10 +94,6 @@ pub match_on : {T : Type 0} (r : Result T Fault) (P E : Type 0) → OnOk r P →
 match_on (Ok x) P E it none = it
 match_on (Err f) P E none it = it
 
-pub on_ok_of : {T : Type 0} (r : Result T Fault) (P E : Type 0) → MatchResult r (λ x. P) (λ f. E) → OnOk r P
-on_ok_of (Ok x) P E it = it
-on_ok_of (Err f) P E it = tt
-
 -- a snapshot is seen by whoever has seen more
 pub snapshot_later : (config : Config) (class : ClassNo) (a b c : Sight) (count : ℕ) → IsSnapshot config class a b count → Grows b c → IsSnapshot config class a c count
 snapshot_later config class a b c count snapshot more = record {

@@ -1,5 +1,5 @@
 -- Where a caller's commands were answered: each place has its command, in what was seen of the stripes and in a closed store.
-use Rattle.std.proofs.Common.{◌≡◌, ◌<◌, ◌≤◌, ◌+◌, ◌-◌, ℕ, zero, suc, List, [], ◌∷◌, ◌++◌, Some, None, Result, Ok, Err, slice_get, length, length-append, append_assoc, refl, sym, ap, ◌∙◌, subst, ⊎_elim, arith}
+use Rattle.std.proofs.Common.{◌≡◌, ◌<◌, ◌+◌, ◌-◌, ℕ, zero, suc, List, [], ◌∷◌, ◌++◌, Some, None, Result, Ok, Err, slice_get, length, length-append, append_assoc, refl, sym, ap, ◌∙◌, subst, ⊎_elim, arith}
 use Rattle.std.specs.Prelude.{IfErr, IfOk, IsSomeAnd, Option}
 use Rattle.std.proofs.lemmas.List.{append-nil}
 use mathlib.Core.List.{IsPrefix}
@@ -296,9 +296,3 @@ pub last_answered : (calls : List CallEvent) (stripe place : ℕ) → IsUnanswer
 last_answered calls stripe place unanswered =
     answered_none (record { stripe = record { 0 = stripe }; place = place }) unanswered.call unanswered.moment
     (last_of calls unanswered.before (answered_at stripe place) unanswered.call unanswered.last) unanswered.is_call
-
--- a caller that has made a call has had a turn
-pub some_turns : (calls : List CallEvent) → IsUnanswered calls → 1 ≤ length (turns_of calls)
-some_turns calls unanswered =
-    let all : length (turns_of calls) ≡ length (turns_of (unanswered.before ++ unanswered.call ∷ [])) = ap (λ (l : List CallEvent). length (turns_of l)) unanswered.last in
-    omega (arith, all, turns_both unanswered.before (unanswered.call ∷ []), turn_more unanswered.call [] unanswered.moment unanswered.is_call)

@@ -1,5 +1,5 @@
-use Rattle.std.proofs.Common.{◌≡◌, [], ◌∙◌, sym, ap}
-use Rattle.mc_board.specs.Steps.{entered, entered_copy, owned_of, showing}
+use Rattle.std.proofs.Common.{◌∙◌, sym, ap}
+use Rattle.mc_board.specs.Steps.{entered_copy}
 use Rattle.mc_board.proofs.{RuleLemmas.words_some, ShareKeeps.enters_as, ShareKeeps.shows_account_as}
 use Rattle.mc_board.proofs.writing.enter.Goals as goal
 

@@ -7,7 +7,7 @@ use Rattle.mc_evidence.specs.Seen.{class_events}
 use Rattle.mc_board.specs.declared.rule.View.{View}
 use Rattle.mc_board.specs.declared.rule.View.TheVariants as views
 use Rattle.mc_board.specs.Accounts.{AreBy, AreShown}
-use Rattle.mc_board.specs.{Steps.account_of, Steps.owned_entered, Steps.owned_of, Steps.owned_shown, Writing.owned_with}
+use Rattle.mc_board.specs.{Steps.owned_of, Writing.owned_with}
 use Rattle.mc_board.proofs.{AccountLemmas.new_is, AccountLemmas.shown_new, FigureLemmas.class_events-rest, FigureLemmas.figures_of-plain}
 use Rattle.mc_board.proofs.{OwnerLemmas.kept_in_memory, PrefixLemmas.prefix_rest}
 use Rattle.mc_board.proofs.owner.Owner.catch_up.Goals as goal
