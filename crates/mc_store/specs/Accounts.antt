@@ -72,12 +72,11 @@ abbrev pub IsOfStretches : Config → ClassNo → List Stretch → (lock place :
 IsOfStretches config class stretches lock place event =
     ((lock ≡ class_lock config class) × ((k : ℕ) × IsSomeAnd (slice_get stretches k) (λ stretch. IsWithin stretch place))) ⊎ (lock < config.stripes)
 
--- what a command with a living item, that needs no search, may make: events of its stripe, and of classes only those that follow
--- their items
+-- what a command may make beside a burial and a search: events of its stripe, and of classes only those that follow their items
 abbrev pub IsOfTry : Config → ℕ → (lock place : ℕ) → Event → Type 0
 IsOfTry config number lock place event = (lock ≡ number) ⊎ (IsClassLock config lock × IsInClass FollowsItem event)
 
--- what the removal of a dead item may make, given its link: events of its stripe, and in its class that its entry is removed
+-- what the burial of a dead item may make, given its link: events of its stripe, and in its class that its entry is removed
 abbrev pub IsOfBurial : Config → ℕ → Link → (lock place : ℕ) → Event → Type 0
 IsOfBurial config number link lock place event =
     (lock ≡ number) ⊎ ((lock ≡ class_lock config link.class) × IsInClass (RemovesDead link.number) event)
@@ -89,7 +88,8 @@ IsOfSearch config needs.Nothing stretch lock place event = ⊥
 IsOfSearch config needs.Same stretch lock place event = ⊥
 IsOfSearch config needs.TooLarge stretch lock place event = ⊥
 
--- what a command on a stripe may make: with its item's removal, if that is dead, and with a search in this stretch for its chunk
+-- what a command on a stripe may make: its own, the burial of its key's item if that is dead, and a search in this stretch for
+-- its chunk
 abbrev pub IsOfCommand : Config → states.Stripe → Command → ℕ → Stretch → (lock place : ℕ) → Event → Type 0
 IsOfCommand config s command moment stretch lock place event =
     IsOfTry config s.site.stripe lock place event

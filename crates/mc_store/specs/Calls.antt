@@ -103,6 +103,10 @@ pub record IsSeenGrowOf (config : Config) (class : ClassNo) (before after : Sigh
   pub now : list_at after.seen (class_lock config class) ≡ class_told history
   pub sound : ClassKeeps (setting_of config) class history (stripes_seen (list_at after.seen))
 
+-- a fault ended the rounds of juggling, from one history of the class to another: whole steps, and a beginning of the next
+abbrev pub IsJuggleCut : Rounds → Fault → (before after : List ClassEvent) → Type 0
+IsJuggleCut r fault before after = (xs : List Answer) × BreaksJuggle r (λ f. Unit {0}) fault before xs after
+
 -- a class went from one history to another: first hits were taken from its queue and made their moves, then the rounds of juggling
 -- made their surveys and walks
 pub record IsUpkept (config : Config) (c : ClassView) (turn : Turn) (hands hands_new : HandsView) (history_new : List ClassEvent) (moves : Moves) : Type 0 where
@@ -112,10 +116,6 @@ pub record IsUpkept (config : Config) (c : ClassView) (turn : Turn) (hands hands
   pub history_is : history_new ≡ (c.history ++ advances) ++ own
   pub answers : List Answer
   pub juggle : IsJuggle (rounds c turn.who turn.moment config) (c.history ++ advances) answers ((c.history ++ advances) ++ own) moves
-
--- a fault ended the rounds of juggling, from one history of the class to another: whole steps, and a beginning of the next
-abbrev pub IsJuggleCut : Rounds → Fault → (before after : List ClassEvent) → Type 0
-IsJuggleCut r fault before after = (xs : List Answer) × BreaksJuggle r (λ f. Unit {0}) fault before xs after
 
 -- the same, but a fault ended it: at a hit, when all hits before it had made their moves, or in the rounds after all hits
 abbrev pub IsUpkeepCut : Config → ClassView → Turn → (hands hands_new : HandsView) → List ClassEvent → Fault → Type 0

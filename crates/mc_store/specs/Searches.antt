@@ -58,7 +58,7 @@ abbrev pub IsSearchFor : Config → Need → Who → ℕ → Sight → Stretch �
 IsSearchFor config need who moment sight stretch =
     (stretch.until ≤ stretch.from) ⊎ ((class : ClassNo) × (need ≡ Fresh class) × IsOneSearch config class who moment sight stretch)
 
--- the same of a command that a fault broke off, and the fault may have come in its search
+-- the same of a command that a fault ended, but that may be a search in this class that the fault broke off
 abbrev pub IsSearchUpTo : Config → Need → Who → ℕ → Sight → Stretch → Type 0
 IsSearchUpTo config need who moment sight stretch =
     IsSearchFor config need who moment sight stretch ⊎ ((class : ClassNo) × (need ≡ Fresh class) × IsCutSearch config class who moment sight stretch)

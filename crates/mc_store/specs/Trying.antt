@@ -29,7 +29,7 @@ is_made (Err fault) = false
 abbrev pub StillTries : Config → Turn → (own own_new : StripeSide) → (caller caller_new : CallerView) → Type 0
 StillTries config turn own own_new = StillCalls (IsOfTry config own.stripe.site.stripe) turn.who.turn (stripe_sight own) (stripe_sight own_new)
 
--- a command's caller goes on in the command's turn, and its account gained only what the removal of the dead item with this link
+-- a command's caller goes on in the command's turn, and its account gained only what the burial of the dead item with this link
 -- may make
 abbrev pub StillBuries : Config → Link → Turn → (own own_new : StripeSide) → (caller caller_new : CallerView) → Type 0
 StillBuries config link turn own own_new =
