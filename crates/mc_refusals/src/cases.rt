@@ -196,7 +196,7 @@ static CASES: [(&str, Call); 66] = [
     ("store_set_for_a_chunk", Shared(FULL_SHARED, SET_SHARED)),
     ("store_juggle", Shared(FULL_SHARED, Called::Juggle)),
     ("store_crawl", Shared(DYING_SHARED, Called::Crawl)),
-    ("store_chunks", Shared(&[SET_SHARED], Called::Limit)),
+    ("store_chunks", Shared(&[], Called::Limit)),
     ("run_script", RunOne),
     ("run_scripts", RunTwo),
 ];
