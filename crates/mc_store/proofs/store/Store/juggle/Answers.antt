@@ -1,135 +1,109 @@
-use Rattle.std.proofs.Common.{◌≡◌, ◌++◌, ◌∷◌, [], ap, ◌∙◌, inl, length, List, subst, sym, refl}
+use Rattle.std.proofs.Common.{◌≡◌, ap, ◌∙◌, inl, length, List, subst, sym, refl}
 use Rattle.std.specs.Prelude.{MatchResult}
-use Rattle.mc_item.specs.declared.{call_event.CallEvent.CallEvent, item.Who.Who, item.ClassNo.ClassNo}
+use Rattle.mc_item.specs.declared.{call_event.CallEvent.CallEvent, item.Who.Who}
 use Rattle.mc_board.specs.{Histories.Grows, Histories.list_at, Views.SeenView}
-use Rattle.mc_evidence.specs.Setting.{IsClass}
-use Rattle.mc_board.specs.declared.rule.Sight.{Sight}
-use Rattle.mc_segment.specs.ClassState.{ClassView}
 use Rattle.mc_pull.specs.Growth as classes
 use Rattle.mc_hits.specs.{Rule.AreBefore, Views.HandsView}
-use Rattle.mc_store.specs.{Calls.IsUpkeepCut, Calls.IsUpkept, Finals.IsBehindAt, Locked.HasBegunAs, Locked.IsHeldClass, Sides.ClassSide, Sides.class_told, Callers.juggling_of}
+use Rattle.mc_store.specs.{Calls.IsUpkeepCut, Calls.IsUpkept, Finals.IsBehindAt, Locked.IsHeldClass, Sides.ClassSide, Sides.class_told, Callers.juggling_of}
 use Rattle.mc_evidence.specs.Seen.{stripes_seen}
-use Rattle.mc_store.proofs.{AccountLemmas.enters_in, AccountLemmas.enters_later, AccountLemmas.enters_same, CallerLemmas.on_ok_always, PlacedLemmas.placed_same, PlacedLemmas.placed_sees}
-use Rattle.mc_store.specs.{Accounts.IsOfWalk, Accounts.StillCalls, Callers.placed_in, Callers.turns_of, Made.HasNoneMadeBy, Passes.next_who, Hits.Takes, Hits.queue_of, Locked.setting_of}
+use Rattle.mc_store.proofs.{AccountLemmas.enters_later, AccountLemmas.enters_same, CallerLemmas.on_ok_always, PlacedLemmas.placed_same, PlacedLemmas.placed_sees}
+use Rattle.mc_store.specs.{Accounts.IsOfWalk, Callers.placed_in, Callers.turns_of, Made.HasNoneMadeBy, Passes.next_who, Hits.queue_of}
 use Rattle.mc_store.specs.{Passes.CallerView, Passes.PassView, Passes.HasCalled, Passes.caller_of, Walking.class_sight}
 use Rattle.mc_store.proofs.{GrownClassLemmas.class_shared, GrownClassLemmas.fails_full, GrownClassLemmas.juggled_so, GrownClassLemmas.juggled_till, SeenStripeLemmas.called_now, TakenHitLemmas.takes_none}
 use Rattle.mc_store.proofs.ShortHistoryLemmas.{if_err_any, match_fault, match_ok}
+use Rattle.mc_store.proofs.store.Store.juggle.Given.{Over}
 use Rattle.mc_store.proofs.store.Store.juggle.Goals as goal
+use Rattle.mc_store.proofs.store.Store.juggle.Goals.{After-share}
+
+-- the class is under its lock before and after
+module _ (g : Over) (c : After-share g) where
+  abbrev old_side : ClassSide
+  old_side = c.compare.new.self
+
+  abbrev new_side : ClassSide
+  new_side = c.upkeep_under-moves.new.class
+
+  old_kept : IsHeldClass g.N.Named.board.table g.N.Named.config old_side
+  old_kept = subst (IsHeldClass g.N.Named.board.table g.N.Named.config) (sym c.compare.ensures.same.0) c.own.invariant.held
+
+  new_kept : IsHeldClass g.N.Named.board.table g.N.Named.config new_side
+  new_kept = subst (IsHeldClass g.N.Named.board.table g.N.Named.config) c.own-2.view_is c.own-2.invariant.held
+
+  number : old_side.class.number ≡ c.args.class
+  number = ap (λ (x : ClassSide). x.class.number) (c.compare.ensures.same.0 ∙ (c.own.view_is ∙ (c.in_ok-who.ensures.class ∙ c.deref_mut-own.ensures.value))) ∙ c.lock_class-guard.ensures
+
+  -- no step before the upkeep changed the class or noted a call
+  class_is : c.tell_class.new.class.class ≡ old_side.class
+  class_is = ap (λ (x : ClassSide). x.class) c.tell_class.ensures.class
+
+  calls_are : c.upkeep_under-moves.new.caller.calls ≡ c.pass.inside.caller.calls
+  calls_are = c.upkeep_under-moves.ensures.still.calls_are ∙ ap (λ (k : CallerView). k.calls) c.tell_class.ensures.same
+
+  grew : classes.GainsEvents old_side.class new_side.class
+  grew = rw class_is at c.upkeep_under-moves.ensures.class
+
+  -- the pass saw what it had of the class, and then all of it
+  behind : IsBehindAt c.args.pass.now.sight old_side.lock (class_told old_side.class.history)
+  behind = rw (← c.compare.ensures.same.0, ap (λ (p : PassView). p.sight) (c.pass.view_is ∙ c.in_ok-who.ensures.took.turn)) at c.compare.ensures.behind
+
+  told : list_at c.share.new.seen.sight.seen new_side.lock ≡ class_told new_side.class.history
+  told = rw c.own-2.view_is at c.share.ensures.told
+
+  all : Grows new_side.sight c.share.new.seen.sight
+  all = rw c.own-2.view_is at c.share.ensures.all
+
+  -- the turn made nothing before, and this is what the upkeep did in it
+  first : HasNoneMadeBy (next_who c.args.pass.now) old_side.class.history
+  first = subst (λ (x : ClassSide). HasNoneMadeBy (next_who c.args.pass.now) x.class.history) (sym (c.compare.ensures.same.0 ∙ (c.own.view_is ∙ c.in_ok-who.ensures.class))) c.in_ok-who.ensures.first
+
+  hands : c.pass.inside.hands ≡ c.args.pass.now.hands
+  hands = ap (λ (p : PassView). p.hands) (c.pass.view_is ∙ c.in_ok-who.ensures.took.turn)
+
+  upkept : MatchResult c.upkeep_under-moves.result
+      (IsUpkept g.N.Named.config old_side.class (record { who = next_who c.args.pass.now; moment = c.args.moment }) c.args.pass.now.hands c.upkeep_under-moves.new.hands new_side.class.history)
+      (IsUpkeepCut g.N.Named.config old_side.class (record { who = next_who c.args.pass.now; moment = c.args.moment }) c.args.pass.now.hands c.upkeep_under-moves.new.hands new_side.class.history)
+  upkept = rw (hands, c.in_ok-who.ensures.took.who, class_is) at c.upkeep_under-moves.ensures.upkept
 
 pub returns-clause-juggled : goal.returns-clause-juggled
 returns-clause-juggled g c =
-    let config = g.N.Named.config in
-    let table = g.N.Named.board.table in
-    let old = c.compare.new.self in
-    let same : old ≡ c.own.inside.side = c.compare.ensures.same.0 in
-    let old_kept : IsHeldClass table config old = subst (IsHeldClass table config) (sym same) c.own.invariant.held in
-    let new = c.upkeep_under-moves.new.class in
-    let new_kept : IsHeldClass table config new = subst (IsHeldClass table config) c.own-2.view_is c.own-2.invariant.held in
-    let cls : c.tell_class.new.class.class ≡ old.class = ap (λ (x : ClassSide). x.class) c.tell_class.ensures.class in
-    let grows = subst (λ (v : ClassView). classes.GainsEvents v new.class) cls c.upkeep_under-moves.ensures.class in
-    let number : old.class.number ≡ c.args.class = ap (λ (x : ClassSide). x.class.number) (same ∙ (c.own.view_is ∙ (c.in_ok-who.ensures.class ∙ c.deref_mut-own.ensures.value))) ∙ c.lock_class-guard.ensures in
-    let sight : c.pass.inside.seen.sight ≡ c.args.pass.now.sight = ap (λ (v : PassView). v.sight) (c.pass.view_is ∙ c.in_ok-who.ensures.took.turn) in
-    let behind : IsBehindAt c.args.pass.now.sight old.lock (class_told old.class.history) =
-    subst (λ (t : Sight). IsBehindAt t old.lock (class_told old.class.history)) sight
-    (subst (λ (x : ClassSide). IsBehindAt c.pass.inside.seen.sight x.lock (class_told x.class.history)) (sym same) c.compare.ensures.behind) in
-    let told : list_at c.share.new.seen.sight.seen new.lock ≡ class_told new.class.history =
-    subst (λ (x : ClassSide). list_at c.share.new.seen.sight.seen x.lock ≡ class_told x.class.history) c.own-2.view_is c.share.ensures.told in
-    let all : Grows new.sight c.share.new.seen.sight = subst (λ (x : ClassSide). Grows x.sight c.share.new.seen.sight) c.own-2.view_is c.share.ensures.all in
-    let hands : c.pass.inside.hands ≡ c.args.pass.now.hands = ap (λ (v : PassView). v.hands) (c.pass.view_is ∙ c.in_ok-who.ensures.took.turn) in
-    let r = c.upkeep_under-moves.result in
-    let P : ClassView → HandsView → Who → Type 0 = λ v h who. MatchResult r
-    (IsUpkept config v (record { who = who; moment = c.args.moment }) h c.upkeep_under-moves.new.hands new.class.history)
-    (IsUpkeepCut config v (record { who = who; moment = c.args.moment }) h c.upkeep_under-moves.new.hands new.class.history) in
-    let made = subst (P old.class c.args.pass.now.hands) c.in_ok-who.ensures.took.who
-    (subst (λ (h : HandsView). P old.class h c.in_ok-who.who) hands (subst (λ (v : ClassView). P v c.pass.inside.hands c.in_ok-who.who) cls c.upkeep_under-moves.ensures.upkept)) in
-    let first = subst (λ (x : ClassSide). HasNoneMadeBy (next_who c.args.pass.now) x.class.history)
-    (sym (same ∙ (c.own.view_is ∙ c.in_ok-who.ensures.class))) c.in_ok-who.ensures.first in
-    juggled_so table config c.args.class c.args.pass.now.sight c.share.new.seen.sight old new old_kept new_kept number grows behind told all
-    c.args.pass.now _ c.args.moment r first refl refl (match_ok r _ _ made)
+    let at = (goal.at.returns-clause-juggled g c).After-share in
+    juggled_so g.N.Named.board.table g.N.Named.config c.args.class c.args.pass.now.sight c.share.new.seen.sight (old_side g at) (new_side g at) (old_kept g at) (new_kept g at)
+    (number g at) (grew g at) (behind g at) (told g at) (all g at) c.args.pass.now _ c.args.moment _ (first g at) refl refl (match_ok c.upkeep_under-moves.result _ _ (upkept g at))
 
 pub returns-clause-cut : goal.returns-clause-cut
 returns-clause-cut g c =
-    let config = g.N.Named.config in
-    let table = g.N.Named.board.table in
-    let old = c.compare.new.self in
-    let same : old ≡ c.own.inside.side = c.compare.ensures.same.0 in
-    let old_kept : IsHeldClass table config old = subst (IsHeldClass table config) (sym same) c.own.invariant.held in
-    let new = c.upkeep_under-moves.new.class in
-    let new_kept : IsHeldClass table config new = subst (IsHeldClass table config) c.own-2.view_is c.own-2.invariant.held in
-    let cls : c.tell_class.new.class.class ≡ old.class = ap (λ (x : ClassSide). x.class) c.tell_class.ensures.class in
-    let grows = subst (λ (v : ClassView). classes.GainsEvents v new.class) cls c.upkeep_under-moves.ensures.class in
-    let number : old.class.number ≡ c.args.class = ap (λ (x : ClassSide). x.class.number) (same ∙ (c.own.view_is ∙ (c.in_ok-who.ensures.class ∙ c.deref_mut-own.ensures.value))) ∙ c.lock_class-guard.ensures in
-    let sight : c.pass.inside.seen.sight ≡ c.args.pass.now.sight = ap (λ (v : PassView). v.sight) (c.pass.view_is ∙ c.in_ok-who.ensures.took.turn) in
-    let behind : IsBehindAt c.args.pass.now.sight old.lock (class_told old.class.history) =
-    subst (λ (t : Sight). IsBehindAt t old.lock (class_told old.class.history)) sight
-    (subst (λ (x : ClassSide). IsBehindAt c.pass.inside.seen.sight x.lock (class_told x.class.history)) (sym same) c.compare.ensures.behind) in
-    let told : list_at c.share.new.seen.sight.seen new.lock ≡ class_told new.class.history =
-    subst (λ (x : ClassSide). list_at c.share.new.seen.sight.seen x.lock ≡ class_told x.class.history) c.own-2.view_is c.share.ensures.told in
-    let all : Grows new.sight c.share.new.seen.sight = subst (λ (x : ClassSide). Grows x.sight c.share.new.seen.sight) c.own-2.view_is c.share.ensures.all in
-    let hands : c.pass.inside.hands ≡ c.args.pass.now.hands = ap (λ (v : PassView). v.hands) (c.pass.view_is ∙ c.in_ok-who.ensures.took.turn) in
-    let r = c.upkeep_under-moves.result in
-    let P : ClassView → HandsView → Who → Type 0 = λ v h who. MatchResult r
-    (IsUpkept config v (record { who = who; moment = c.args.moment }) h c.upkeep_under-moves.new.hands new.class.history)
-    (IsUpkeepCut config v (record { who = who; moment = c.args.moment }) h c.upkeep_under-moves.new.hands new.class.history) in
-    let made = subst (P old.class c.args.pass.now.hands) c.in_ok-who.ensures.took.who
-    (subst (λ (h : HandsView). P old.class h c.in_ok-who.who) hands (subst (λ (v : ClassView). P v c.pass.inside.hands c.in_ok-who.who) cls c.upkeep_under-moves.ensures.upkept)) in
-    let first = subst (λ (x : ClassSide). HasNoneMadeBy (next_who c.args.pass.now) x.class.history)
-    (sym (same ∙ (c.own.view_is ∙ c.in_ok-who.ensures.class))) c.in_ok-who.ensures.first in
-    let calls : c.upkeep_under-moves.new.caller.calls ≡ c.args.pass.now.calls ++ juggling_of c.args.class c.args.moment ∷ [] =
-    c.upkeep_under-moves.ensures.still.calls_are
-    ∙ (ap (λ (k : CallerView). k.calls) c.tell_class.ensures.same ∙ ap (λ (p : PassView). p.calls) (c.pass.view_is ∙ c.in_ok-who.ensures.took.turn)) in
-    juggled_till table config c.args.class c.args.pass.now.sight c.share.new.seen.sight old new old_kept new_kept number grows behind told all
-    c.args.pass.now _ c.args.moment r first refl refl calls (match_fault r _ _ made)
+    let at = (goal.at.returns-clause-cut g c).After-share in
+    let calls = calls_are g at ∙ ap (λ (p : PassView). p.calls) (c.pass.view_is ∙ c.in_ok-who.ensures.took.turn) in
+    juggled_till g.N.Named.board.table g.N.Named.config c.args.class c.args.pass.now.sight c.share.new.seen.sight (old_side g at) (new_side g at) (old_kept g at) (new_kept g at)
+    (number g at) (grew g at) (behind g at) (told g at) (all g at) c.args.pass.now _ c.args.moment _ (first g at) refl refl calls (match_fault c.upkeep_under-moves.result _ _ (upkept g at))
 
 pub returns-in_err-who-clause-cut : goal.returns-in_err-who-clause-cut
 returns-in_err-who-clause-cut g c = if_err_any c.from_residual.result _ (λ fault. inl c.in_err-who.ensures.err)
 
 pub returns-clause-full : goal.returns-clause-full
 returns-clause-full g c = λ is.
-    let config = g.N.Named.config in
-    let table = g.N.Named.board.table in
-    let old = c.compare.new.self in
-    let same : old ≡ c.own.inside.side = c.compare.ensures.same.0 in
-    let old_kept : IsHeldClass table config old = subst (IsHeldClass table config) (sym same) c.own.invariant.held in
-    let new = c.upkeep_under-moves.new.class in
-    let new_kept : IsHeldClass table config new = subst (IsHeldClass table config) c.own-2.view_is c.own-2.invariant.held in
-    let cls : c.tell_class.new.class.class ≡ old.class = ap (λ (x : ClassSide). x.class) c.tell_class.ensures.class in
-    let grows = subst (λ (v : ClassView). classes.GainsEvents v new.class) cls c.upkeep_under-moves.ensures.class in
-    let number : old.class.number ≡ c.args.class = ap (λ (x : ClassSide). x.class.number) (same ∙ (c.own.view_is ∙ (c.in_ok-who.ensures.class ∙ c.deref_mut-own.ensures.value))) ∙ c.lock_class-guard.ensures in
-    let sight : c.pass.inside.seen.sight ≡ c.args.pass.now.sight = ap (λ (v : PassView). v.sight) (c.pass.view_is ∙ c.in_ok-who.ensures.took.turn) in
-    let behind : IsBehindAt c.args.pass.now.sight old.lock (class_told old.class.history) =
-    subst (λ (t : Sight). IsBehindAt t old.lock (class_told old.class.history)) sight
-    (subst (λ (x : ClassSide). IsBehindAt c.pass.inside.seen.sight x.lock (class_told x.class.history)) (sym same) c.compare.ensures.behind) in
-    let told : list_at c.share.new.seen.sight.seen new.lock ≡ class_told new.class.history =
-    subst (λ (x : ClassSide). list_at c.share.new.seen.sight.seen x.lock ≡ class_told x.class.history) c.own-2.view_is c.share.ensures.told in
-    let all : Grows new.sight c.share.new.seen.sight = subst (λ (x : ClassSide). Grows x.sight c.share.new.seen.sight) c.own-2.view_is c.share.ensures.all in
-    inl (fails_full table config c.args.class c.args.pass.now.sight c.share.new.seen.sight old new old_kept new_kept number grows behind told all
-    c.upkeep_under-moves.result c.upkeep_under-moves.ensures.fault is)
+    let at = (goal.at.returns-clause-full g c).After-share in
+    inl (fails_full g.N.Named.board.table g.N.Named.config c.args.class c.args.pass.now.sight c.share.new.seen.sight (old_side g at) (new_side g at) (old_kept g at) (new_kept g at)
+    (number g at) (grew g at) (behind g at) (told g at) (all g at) c.upkeep_under-moves.result c.upkeep_under-moves.ensures.fault is)
 
 pub returns-clause-turn : goal.returns-clause-turn
-returns-clause-turn g c = (
-  refl,
-  on_ok_always c.upkeep_under-moves.result
-      (ap (λ (calls : List CallEvent). length (turns_of calls)) (c.upkeep_under-moves.ensures.still.calls_are ∙ ap (λ (k : CallerView). k.calls) c.tell_class.ensures.same)
-      ∙ ap (λ (p : PassView). p.turn) (c.pass.view_is ∙ c.in_ok-who.ensures.took.turn)),
-)
+returns-clause-turn g c =
+    let calls = calls_are g (goal.at.returns-clause-turn g c).After-share in
+    (refl, on_ok_always c.upkeep_under-moves.result (ap (λ (l : List CallEvent). length (turns_of l)) calls ∙ ap (λ (p : PassView). p.turn) (c.pass.view_is ∙ c.in_ok-who.ensures.took.turn)))
 
 pub upkeep_under-moves-requires : goal.upkeep_under-moves-requires
 upkeep_under-moves-requires g c =
-    let config = g.N.Named.config in
     let turn = c.in_ok-who.ensures.took.turn in
-    let called = called_now c.args.pass.now c.take_turn_in.new.self (juggling_of c.args.class c.args.moment) c.in_ok-who.who c.args.moment
-    (ap (λ (p : PassView). p.caller) turn) (ap (λ (p : PassView). p.calls) turn) c.in_ok-who.ensures.took.who c.in_ok-who.ensures.turns refl in
     let call = juggling_of c.args.class c.args.moment in
-    let same : c.compare.new.self ≡ c.own.inside.side = c.compare.ensures.same.0 in
-    let number : c.tell_class.new.class.class.number ≡ c.args.class =
-    ap (λ (x : ClassSide). x.class.number) c.tell_class.ensures.class
-    ∙ (ap (λ (x : ClassSide). x.class.number) (same ∙ (c.own.view_is ∙ (c.in_ok-who.ensures.class ∙ c.deref_mut-own.ensures.value))) ∙ c.lock_class-guard.ensures) in
+    let called = called_now c.args.pass.now c.take_turn_in.new.self call c.in_ok-who.who c.args.moment
+    (ap (λ (p : PassView). p.caller) turn) (ap (λ (p : PassView). p.calls) turn) c.in_ok-who.ensures.took.who c.in_ok-who.ensures.turns refl in
+    let number : c.tell_class.new.class.class.number ≡ c.args.class = ap (λ (x : ClassSide). x.class.number) c.tell_class.ensures.class
+    ∙ (ap (λ (x : ClassSide). x.class.number) (c.compare.ensures.same.0 ∙ (c.own.view_is ∙ (c.in_ok-who.ensures.class ∙ c.deref_mut-own.ensures.value))) ∙ c.lock_class-guard.ensures) in
     let begun = c.tell_class.ensures.begun c.in_ok-who.who c.args.moment call (subst (λ (p : PassView). HasCalled (caller_of p) c.in_ok-who.who c.args.moment call) (sym c.pass.view_is) called) in
     record {
       upkeep = record {
-        of = subst (IsClass (setting_of config)) (sym number) c.requires.class;
-        begun = subst (λ (n : ClassNo). HasBegunAs config c.tell_class.new.class.sight c.in_ok-who.who c.args.moment (juggling_of n c.args.moment)) (sym number) begun;
+        of = rw number c.requires.class;
+        begun = rw number begun;
         tables_are = c.pass.invariant.2;
         number = ap (λ (w : Who). w.caller) c.in_ok-who.ensures.took.who ∙ (sym (ap (λ (p : PassView). p.caller) (c.pass.view_is ∙ turn)) ∙ sym (ap (λ (k : CallerView). k.number) c.tell_class.ensures.same));
       };
@@ -137,13 +111,8 @@ upkeep_under-moves-requires g c =
 
 pub returns-clause-taken : goal.returns-clause-taken
 returns-clause-taken g c =
-    let same : c.compare.new.self ≡ c.own.inside.side = c.compare.ensures.same.0 in
-    let number : c.tell_class.new.class.class.number ≡ c.args.class =
-    ap (λ (x : ClassSide). x.class.number) c.tell_class.ensures.class
-    ∙ (ap (λ (x : ClassSide). x.class.number) (same ∙ (c.own.view_is ∙ (c.in_ok-who.ensures.class ∙ c.deref_mut-own.ensures.value))) ∙ c.lock_class-guard.ensures) in
-    let hands : c.pass.inside.hands ≡ c.args.pass.now.hands = ap (λ (v : PassView). v.hands) (c.pass.view_is ∙ c.in_ok-who.ensures.took.turn) in
-    subst (λ (n : ClassNo). Takes (queue_of n) c.args.pass.now.hands c.upkeep_under-moves.new.hands) number
-    (subst (λ (h : HandsView). Takes (queue_of c.tell_class.new.class.class.number) h c.upkeep_under-moves.new.hands) hands c.upkeep_under-moves.ensures.taken)
+    let at = (goal.at.returns-clause-taken g c).After-share in
+    rw (hands g at, class_is g at, number g at) at c.upkeep_under-moves.ensures.taken
 
 pub returns-in_err-who-clause-taken : goal.returns-in_err-who-clause-taken
 returns-in_err-who-clause-taken g c =
@@ -151,24 +120,12 @@ returns-in_err-who-clause-taken g c =
 
 pub returns-clause-account : goal.returns-clause-account
 returns-clause-account g c =
+    let at = (goal.at.returns-clause-account g c).After-share in
     let config = g.N.Named.config in
-    let same : c.compare.new.self ≡ c.own.inside.side = c.compare.ensures.same.0 in
-    let number : c.tell_class.new.class.class.number ≡ c.args.class =
-    ap (λ (x : ClassSide). x.class.number) c.tell_class.ensures.class
-    ∙ (ap (λ (x : ClassSide). x.class.number) (same ∙ (c.own.view_is ∙ (c.in_ok-who.ensures.class ∙ c.deref_mut-own.ensures.value))) ∙ c.lock_class-guard.ensures) in
-    let old = c.args.pass.now in
-    let told = c.tell_class.new.self in
-    let made : told.made ≡ old.made = ap (λ (k : CallerView). k.made) c.tell_class.ensures.same ∙ ap (λ (p : PassView). p.made) (c.pass.view_is ∙ c.in_ok-who.ensures.took.turn) in
-    let new = c.upkeep_under-moves.new.class in
-    let new_kept : IsHeldClass g.N.Named.board.table config new = subst (IsHeldClass g.N.Named.board.table config) c.own-2.view_is c.own-2.invariant.held in
-    let whole : list_at c.share.new.seen.sight.seen new.lock ≡ class_told new.class.history =
-    subst (λ (x : ClassSide). list_at c.share.new.seen.sight.seen x.lock ≡ class_told x.class.history) c.own-2.view_is c.share.ensures.told in
-    let all : Grows new.sight c.share.new.seen.sight = subst (λ (x : ClassSide). Grows x.sight c.share.new.seen.sight) c.own-2.view_is c.share.ensures.all in
-    let entered =
-    enters_later (IsOfWalk config c.tell_class.new.class.class.number) c.in_ok-who.who.turn {mid = class_sight config new} {after = c.share.new.seen.sight} told.made c.upkeep_under-moves.new.caller.made
-    (class_shared g.N.Named.board.table config new c.share.new.seen.sight new_kept whole all) c.upkeep_under-moves.ensures.still.enters in
-    enters_in (IsOfWalk config) c.tell_class.new.class.class.number c.args.class c.in_ok-who.who.turn old.turn told.made old.made c.upkeep_under-moves.new.caller.made number
-    (ap (λ (w : Who). w.turn) c.in_ok-who.ensures.took.who) made entered
+    let made = ap (λ (k : CallerView). k.made) c.tell_class.ensures.same ∙ ap (λ (p : PassView). p.made) (c.pass.view_is ∙ c.in_ok-who.ensures.took.turn) in
+    let seen = class_shared g.N.Named.board.table config (new_side g at) c.share.new.seen.sight (new_kept g at) (told g at) (all g at) in
+    rw (class_is g at, number g at, ap (λ (w : Who). w.turn) c.in_ok-who.ensures.took.who, made) at (enters_later (IsOfWalk config c.tell_class.new.class.class.number) c.in_ok-who.who.turn
+    {mid = class_sight config (new_side g at)} {after = c.share.new.seen.sight} c.tell_class.new.self.made c.upkeep_under-moves.new.caller.made seen c.upkeep_under-moves.ensures.still.enters)
 
 pub returns-in_err-who-clause-account : goal.returns-in_err-who-clause-account
 returns-in_err-who-clause-account g c =
@@ -177,22 +134,18 @@ returns-in_err-who-clause-account g c =
 
 pub invariant_of-pass : goal.invariant_of-pass
 invariant_of-pass g c =
-    let config = g.N.Named.config in
     let i = c.pass.invariant in
     let same = c.upkeep_under-moves.ensures.same in
-    let new = c.upkeep_under-moves.new.caller in
-    let still =
-    subst
-    (λ (k : CallerView). StillCalls (IsOfWalk config c.tell_class.new.class.class.number) c.in_ok-who.who.turn (class_sight config c.tell_class.new.class)
-    (class_sight config c.upkeep_under-moves.new.class) k new)
-    c.tell_class.ensures.same c.upkeep_under-moves.ensures.still in
-    let seen : c.compare.new.seen ≡ c.pass.inside.seen = c.compare.ensures.same.1 in
-    let grows : Grows c.pass.inside.seen.sight c.share.new.seen.sight = subst (λ (v : SeenView). Grows v.sight c.share.new.seen.sight) seen c.share.ensures.grows.seen in (
+    let seen = c.compare.ensures.same.1 in
+    let after = c.share.new.seen.sight in
+    let calls = calls_are g (goal.at.invariant_of-pass g c).After-share in
+    let number = c.upkeep_under-moves.ensures.still.number_is ∙ ap (λ (k : CallerView). k.number) c.tell_class.ensures.same in
+    let grows : Grows c.pass.inside.seen.sight after = subst (λ (v : SeenView). Grows v.sight after) seen c.share.ensures.grows.seen in (
       c.share.ensures.board ∙ (ap (λ (v : SeenView). v.board) seen ∙ i.0),
-      placed_same config c.pass.inside.caller new (stripes_seen (list_at c.share.new.seen.sight.seen)) still.number_is (ap placed_in still.calls_are)
-          (placed_sees config c.pass.inside.caller c.pass.inside.seen.sight c.share.new.seen.sight grows i.1),
+      placed_same g.N.Named.config c.pass.inside.caller c.upkeep_under-moves.new.caller (stripes_seen (list_at after.seen)) number (ap placed_in calls)
+          (placed_sees g.N.Named.config c.pass.inside.caller c.pass.inside.seen.sight after grows i.1),
       ap (λ (h : HandsView). h.tables) same ∙ i.2,
-      ap (λ (h : HandsView). h.caller) same ∙ (i.3 ∙ sym still.number_is),
-      subst (λ (calls : List CallEvent). AreBefore (length (turns_of calls)) c.upkeep_under-moves.new.hands.offers) (sym still.calls_are)
+      ap (λ (h : HandsView). h.caller) same ∙ (i.3 ∙ sym number),
+      subst (λ (l : List CallEvent). AreBefore (length (turns_of l)) c.upkeep_under-moves.new.hands.offers) (sym calls)
           (subst (λ (h : HandsView). AreBefore (length (turns_of c.pass.inside.caller.calls)) h.offers) (sym same) i.4),
     )
