@@ -1,11 +1,9 @@
-use Rattle.std.proofs.Common.{length, List, ◌≡◌, ap, ◌∙◌, subst, sym}
-use Rattle.mc_item.specs.declared.{call_event.CallEvent.CallEvent}
+use Rattle.std.proofs.Common.{◌≡◌, ap, ◌∙◌, sym}
 use Rattle.mc_board.specs.{Histories.Grows, Histories.list_at, Views.SeenView}
 use Rattle.mc_evidence.specs.Seen.{stripes_seen}
 use Rattle.mc_segment.specs.ClassState.{ClassView}
 use Rattle.mc_pull.specs.Growth as classes
-use Rattle.mc_hits.specs.Rule.{AreBefore}
-use Rattle.mc_store.specs.{Accounts.IsOfStretch, Accounts.StillCalls, Accounts.stretch_of, Callers.crawling_of, Callers.placed_in, Callers.turns_of, Finals.IsBehindAt}
+use Rattle.mc_store.specs.{Accounts.IsOfStretch, Accounts.StillCalls, Accounts.stretch_of, Callers.crawling_of, Callers.placed_in, Finals.IsBehindAt}
 use Rattle.mc_store.specs.{Locked.IsHeldClass, Passes.CallerView, Passes.PassView, Sides.ClassSide, Sides.class_told, Walking.class_sight}
 use Rattle.mc_store.proofs.{AccountLemmas.still_pass, CrawledLemmas.enters_no_link, CrawledLemmas.link_entered, CrawledLemmas.link_seen, CrawledLemmas.match_ends}
 use Rattle.mc_store.proofs.{GrownClassLemmas.class_grew, GrownClassLemmas.class_shared, GrownClassLemmas.fails_full, GrownClassLemmas.seen_sound, PlacedLemmas.placed_same, PlacedLemmas.placed_sees}
@@ -22,10 +20,10 @@ module _ (g : Over) (c : After-share g) where
   new_side = c.crawl_under-done.new.class
 
   old_kept : IsHeldClass g.N.Named.board.table g.N.Named.config old_side
-  old_kept = subst (IsHeldClass g.N.Named.board.table g.N.Named.config) (sym c.compare.ensures.same.0) c.own.invariant.held
+  old_kept = rw (← c.compare.ensures.same.0) at c.own.invariant.held
 
   new_kept : IsHeldClass g.N.Named.board.table g.N.Named.config new_side
-  new_kept = subst (IsHeldClass g.N.Named.board.table g.N.Named.config) c.own-2.view_is c.own-2.invariant.held
+  new_kept = rw c.own-2.view_is at c.own-2.invariant.held
 
   number : old_side.class.number ≡ c.args.crawling.class
   number = ap (λ (x : ClassSide). x.class.number) (c.compare.ensures.same.0 ∙ (c.own.view_is ∙ c.deref_mut-own.ensures.value)) ∙ c.lock_class-guard.ensures
@@ -106,11 +104,11 @@ invariant_of-pass g c =
     let seen = c.compare.ensures.same.1 in
     let after = c.share.new.seen.sight in
     let same = still g (goal.at.invariant_of-pass g c).After-share in
-    let grows : Grows c.pass.inside.seen.sight after = subst (λ (v : SeenView). Grows v.sight after) seen c.share.ensures.grows.seen in (
+    let grows = rw seen at c.share.ensures.grows.seen in (
       c.share.ensures.board ∙ (ap (λ (v : SeenView). v.board) seen ∙ i.0),
       placed_same g.N.Named.config c.pass.inside.caller c.crawl_under-done.new.caller (stripes_seen (list_at after.seen)) same.number_is (ap placed_in same.calls_are)
           (placed_sees g.N.Named.config c.pass.inside.caller c.pass.inside.seen.sight after grows i.1),
       i.2,
       i.3 ∙ sym same.number_is,
-      subst (λ (calls : List CallEvent). AreBefore (length (turns_of calls)) c.pass.inside.hands.offers) (sym same.calls_are) i.4,
+      rw same.calls_are i.4,
     )

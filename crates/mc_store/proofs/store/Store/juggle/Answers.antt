@@ -1,15 +1,14 @@
-use Rattle.std.proofs.Common.{◌≡◌, ap, ◌∙◌, inl, length, List, subst, sym, refl}
+use Rattle.std.proofs.Common.{◌≡◌, ap, ◌∙◌, inl, length, List, sym, refl}
 use Rattle.std.specs.Prelude.{MatchResult}
 use Rattle.mc_item.specs.declared.{call_event.CallEvent.CallEvent, item.Who.Who}
 use Rattle.mc_board.specs.{Histories.Grows, Histories.list_at, Views.SeenView}
 use Rattle.mc_pull.specs.Growth as classes
-use Rattle.mc_hits.specs.{Rule.AreBefore, Views.HandsView}
-use Rattle.mc_store.specs.{Calls.IsUpkeepCut, Calls.IsUpkept, Finals.IsBehindAt, Locked.IsHeldClass, Sides.ClassSide, Sides.class_told, Callers.juggling_of}
+use Rattle.mc_hits.specs.{Views.HandsView}
 use Rattle.mc_evidence.specs.Seen.{stripes_seen}
-use Rattle.mc_store.proofs.{AccountLemmas.enters_later, AccountLemmas.enters_same, CallerLemmas.on_ok_always, PlacedLemmas.placed_same, PlacedLemmas.placed_sees}
-use Rattle.mc_store.specs.{Accounts.IsOfWalk, Callers.placed_in, Callers.turns_of, Made.HasNoneMadeBy, Passes.next_who, Hits.queue_of}
-use Rattle.mc_store.specs.{Passes.CallerView, Passes.PassView, Passes.HasCalled, Passes.caller_of, Walking.class_sight}
-use Rattle.mc_store.proofs.{GrownClassLemmas.class_shared, GrownClassLemmas.fails_full, GrownClassLemmas.juggled_so, GrownClassLemmas.juggled_till, SeenStripeLemmas.called_now, TakenHitLemmas.takes_none}
+use Rattle.mc_store.specs.{Accounts.IsOfWalk, Accounts.StillCalls, Callers.juggling_of, Callers.placed_in, Callers.turns_of, Calls.IsUpkeepCut, Calls.IsUpkept, Finals.IsBehindAt, Hits.queue_of}
+use Rattle.mc_store.specs.{Locked.IsHeldClass, Made.HasNoneMadeBy, Passes.CallerView, Passes.PassView, Passes.next_who, Sides.ClassSide, Sides.class_told, Walking.class_sight}
+use Rattle.mc_store.proofs.{AccountLemmas.enters_later, AccountLemmas.enters_same, CallerLemmas.on_ok_always, GrownClassLemmas.class_shared, GrownClassLemmas.fails_full, GrownClassLemmas.juggled_so}
+use Rattle.mc_store.proofs.{GrownClassLemmas.juggled_till, PlacedLemmas.placed_same, PlacedLemmas.placed_sees, SeenStripeLemmas.called_now, TakenHitLemmas.takes_none}
 use Rattle.mc_store.proofs.ShortHistoryLemmas.{if_err_any, match_fault, match_ok}
 use Rattle.mc_store.proofs.store.Store.juggle.Given.{Over}
 use Rattle.mc_store.proofs.store.Store.juggle.Goals as goal
@@ -24,23 +23,24 @@ module _ (g : Over) (c : After-share g) where
   new_side = c.upkeep_under-moves.new.class
 
   old_kept : IsHeldClass g.N.Named.board.table g.N.Named.config old_side
-  old_kept = subst (IsHeldClass g.N.Named.board.table g.N.Named.config) (sym c.compare.ensures.same.0) c.own.invariant.held
+  old_kept = rw (← c.compare.ensures.same.0) at c.own.invariant.held
 
   new_kept : IsHeldClass g.N.Named.board.table g.N.Named.config new_side
-  new_kept = subst (IsHeldClass g.N.Named.board.table g.N.Named.config) c.own-2.view_is c.own-2.invariant.held
+  new_kept = rw c.own-2.view_is at c.own-2.invariant.held
 
   number : old_side.class.number ≡ c.args.class
   number = ap (λ (x : ClassSide). x.class.number) (c.compare.ensures.same.0 ∙ (c.own.view_is ∙ (c.in_ok-who.ensures.class ∙ c.deref_mut-own.ensures.value))) ∙ c.lock_class-guard.ensures
 
-  -- no step before the upkeep changed the class or noted a call
+  -- no step before the upkeep changed the class or the caller
   class_is : c.tell_class.new.class.class ≡ old_side.class
   class_is = ap (λ (x : ClassSide). x.class) c.tell_class.ensures.class
 
-  calls_are : c.upkeep_under-moves.new.caller.calls ≡ c.pass.inside.caller.calls
-  calls_are = c.upkeep_under-moves.ensures.still.calls_are ∙ ap (λ (k : CallerView). k.calls) c.tell_class.ensures.same
-
   grew : classes.GainsEvents old_side.class new_side.class
   grew = rw class_is at c.upkeep_under-moves.ensures.class
+
+  still : StillCalls (IsOfWalk g.N.Named.config c.tell_class.new.class.class.number) c.in_ok-who.who.turn (class_sight g.N.Named.config c.tell_class.new.class)
+      (class_sight g.N.Named.config new_side) c.pass.inside.caller c.upkeep_under-moves.new.caller
+  still = rw c.tell_class.ensures.same at c.upkeep_under-moves.ensures.still
 
   -- the pass saw what it had of the class, and then all of it
   behind : IsBehindAt c.args.pass.now.sight old_side.lock (class_told old_side.class.history)
@@ -54,7 +54,7 @@ module _ (g : Over) (c : After-share g) where
 
   -- the turn made nothing before, and this is what the upkeep did in it
   first : HasNoneMadeBy (next_who c.args.pass.now) old_side.class.history
-  first = subst (λ (x : ClassSide). HasNoneMadeBy (next_who c.args.pass.now) x.class.history) (sym (c.compare.ensures.same.0 ∙ (c.own.view_is ∙ c.in_ok-who.ensures.class))) c.in_ok-who.ensures.first
+  first = rw (← (c.compare.ensures.same.0 ∙ (c.own.view_is ∙ c.in_ok-who.ensures.class))) at c.in_ok-who.ensures.first
 
   hands : c.pass.inside.hands ≡ c.args.pass.now.hands
   hands = ap (λ (p : PassView). p.hands) (c.pass.view_is ∙ c.in_ok-who.ensures.took.turn)
@@ -73,7 +73,7 @@ returns-clause-juggled g c =
 pub returns-clause-cut : goal.returns-clause-cut
 returns-clause-cut g c =
     let at = (goal.at.returns-clause-cut g c).After-share in
-    let calls = calls_are g at ∙ ap (λ (p : PassView). p.calls) (c.pass.view_is ∙ c.in_ok-who.ensures.took.turn) in
+    let calls = (still g at).calls_are ∙ ap (λ (p : PassView). p.calls) (c.pass.view_is ∙ c.in_ok-who.ensures.took.turn) in
     juggled_till g.N.Named.board.table g.N.Named.config c.args.class c.args.pass.now.sight c.share.new.seen.sight (old_side g at) (new_side g at) (old_kept g at) (new_kept g at)
     (number g at) (grew g at) (behind g at) (told g at) (all g at) c.args.pass.now _ c.args.moment _ (first g at) refl refl calls (match_fault c.upkeep_under-moves.result _ _ (upkept g at))
 
@@ -88,7 +88,7 @@ returns-clause-full g c = λ is.
 
 pub returns-clause-turn : goal.returns-clause-turn
 returns-clause-turn g c =
-    let calls = calls_are g (goal.at.returns-clause-turn g c).After-share in
+    let calls = (still g (goal.at.returns-clause-turn g c).After-share).calls_are in
     (refl, on_ok_always c.upkeep_under-moves.result (ap (λ (l : List CallEvent). length (turns_of l)) calls ∙ ap (λ (p : PassView). p.turn) (c.pass.view_is ∙ c.in_ok-who.ensures.took.turn)))
 
 pub upkeep_under-moves-requires : goal.upkeep_under-moves-requires
@@ -99,7 +99,7 @@ upkeep_under-moves-requires g c =
     (ap (λ (p : PassView). p.caller) turn) (ap (λ (p : PassView). p.calls) turn) c.in_ok-who.ensures.took.who c.in_ok-who.ensures.turns refl in
     let number : c.tell_class.new.class.class.number ≡ c.args.class = ap (λ (x : ClassSide). x.class.number) c.tell_class.ensures.class
     ∙ (ap (λ (x : ClassSide). x.class.number) (c.compare.ensures.same.0 ∙ (c.own.view_is ∙ (c.in_ok-who.ensures.class ∙ c.deref_mut-own.ensures.value))) ∙ c.lock_class-guard.ensures) in
-    let begun = c.tell_class.ensures.begun c.in_ok-who.who c.args.moment call (subst (λ (p : PassView). HasCalled (caller_of p) c.in_ok-who.who c.args.moment call) (sym c.pass.view_is) called) in
+    let begun = c.tell_class.ensures.begun c.in_ok-who.who c.args.moment call (rw (← c.pass.view_is) at called) in
     record {
       upkeep = record {
         of = rw number c.requires.class;
@@ -122,10 +122,10 @@ pub returns-clause-account : goal.returns-clause-account
 returns-clause-account g c =
     let at = (goal.at.returns-clause-account g c).After-share in
     let config = g.N.Named.config in
-    let made = ap (λ (k : CallerView). k.made) c.tell_class.ensures.same ∙ ap (λ (p : PassView). p.made) (c.pass.view_is ∙ c.in_ok-who.ensures.took.turn) in
     let seen = class_shared g.N.Named.board.table config (new_side g at) c.share.new.seen.sight (new_kept g at) (told g at) (all g at) in
-    rw (class_is g at, number g at, ap (λ (w : Who). w.turn) c.in_ok-who.ensures.took.who, made) at (enters_later (IsOfWalk config c.tell_class.new.class.class.number) c.in_ok-who.who.turn
-    {mid = class_sight config (new_side g at)} {after = c.share.new.seen.sight} c.tell_class.new.self.made c.upkeep_under-moves.new.caller.made seen c.upkeep_under-moves.ensures.still.enters)
+    rw (class_is g at, number g at, ap (λ (w : Who). w.turn) c.in_ok-who.ensures.took.who, ap (λ (p : PassView). p.made) (c.pass.view_is ∙ c.in_ok-who.ensures.took.turn)) at
+    (enters_later (IsOfWalk config c.tell_class.new.class.class.number) c.in_ok-who.who.turn {mid = class_sight config (new_side g at)} {after = c.share.new.seen.sight}
+    c.pass.inside.caller.made c.upkeep_under-moves.new.caller.made seen (still g at).enters)
 
 pub returns-in_err-who-clause-account : goal.returns-in_err-who-clause-account
 returns-in_err-who-clause-account g c =
@@ -138,14 +138,12 @@ invariant_of-pass g c =
     let same = c.upkeep_under-moves.ensures.same in
     let seen = c.compare.ensures.same.1 in
     let after = c.share.new.seen.sight in
-    let calls = calls_are g (goal.at.invariant_of-pass g c).After-share in
-    let number = c.upkeep_under-moves.ensures.still.number_is ∙ ap (λ (k : CallerView). k.number) c.tell_class.ensures.same in
-    let grows : Grows c.pass.inside.seen.sight after = subst (λ (v : SeenView). Grows v.sight after) seen c.share.ensures.grows.seen in (
+    let alike = still g (goal.at.invariant_of-pass g c).After-share in
+    let grows = rw seen at c.share.ensures.grows.seen in (
       c.share.ensures.board ∙ (ap (λ (v : SeenView). v.board) seen ∙ i.0),
-      placed_same g.N.Named.config c.pass.inside.caller c.upkeep_under-moves.new.caller (stripes_seen (list_at after.seen)) number (ap placed_in calls)
+      placed_same g.N.Named.config c.pass.inside.caller c.upkeep_under-moves.new.caller (stripes_seen (list_at after.seen)) alike.number_is (ap placed_in alike.calls_are)
           (placed_sees g.N.Named.config c.pass.inside.caller c.pass.inside.seen.sight after grows i.1),
       ap (λ (h : HandsView). h.tables) same ∙ i.2,
-      ap (λ (h : HandsView). h.caller) same ∙ (i.3 ∙ sym number),
-      subst (λ (l : List CallEvent). AreBefore (length (turns_of l)) c.upkeep_under-moves.new.hands.offers) (sym calls)
-          (subst (λ (h : HandsView). AreBefore (length (turns_of c.pass.inside.caller.calls)) h.offers) (sym same) i.4),
+      ap (λ (h : HandsView). h.caller) same ∙ (i.3 ∙ sym alike.number_is),
+      rw (alike.calls_are, same) i.4,
     )

@@ -1,4 +1,4 @@
-use Rattle.std.proofs.Common.{◌≡◌, ap, ◌∙◌, subst, sym}
+use Rattle.std.proofs.Common.{◌≡◌, ap, ◌∙◌}
 use Rattle.mc_board.specs.{Histories.list_at, Views.SeenView}
 use Rattle.mc_evidence.specs.Seen.{stripes_seen}
 use Rattle.mc_rule.specs.Lists.{count_of, lists_of}
@@ -16,7 +16,7 @@ module _ (g : Over) (c : After-share g) where
   side = c.compare.new.self
 
   kept : IsHeldClass g.N.Named.board.table g.N.Named.config side
-  kept = subst (IsHeldClass g.N.Named.board.table g.N.Named.config) (sym c.compare.ensures.same.0) c.own.invariant.held
+  kept = rw (← c.compare.ensures.same.0) at c.own.invariant.held
 
   number : side.class.number ≡ c.args.class
   number = ap (λ (x : ClassSide). x.class.number) (c.compare.ensures.same.0 ∙ (c.own.view_is ∙ c.deref_mut-own.ensures.value)) ∙ c.lock_class-guard.ensures
