@@ -20,7 +20,7 @@ pub enum Why {
 }
 
 /// A new entry was linked at the head of a list.
-#[derive(Drop)]
+#[derive(Debug, Drop)]
 pub struct Linked {
     pub who: Who,
     pub number: u64,
@@ -31,14 +31,14 @@ pub struct Linked {
 }
 
 /// An entry was removed because a command replaced or removed its item.
-#[derive(Drop)]
+#[derive(Debug, Drop)]
 pub struct Unlinked {
     pub who: Who,
     pub number: u64,
 }
 
 /// An entry was moved to the head of another list, or of its own.
-#[derive(Drop)]
+#[derive(Debug, Drop)]
 pub struct Shifted {
     pub who: Who,
     pub number: u64,
@@ -51,7 +51,7 @@ pub struct Shifted {
 }
 
 /// An entry near COLD's tail was evicted.
-#[derive(Drop)]
+#[derive(Debug, Drop)]
 pub struct Evicted {
     pub who: Who,
     pub number: u64,
@@ -60,7 +60,7 @@ pub struct Evicted {
 }
 
 /// An entry was removed because its item was dead.
-#[derive(Drop)]
+#[derive(Debug, Drop)]
 pub struct Reclaimed {
     pub who: Who,
     pub number: u64,
@@ -69,7 +69,7 @@ pub struct Reclaimed {
 }
 
 /// A survey: the bytes of HOT, WARM and COLD together, and the age of COLD's tail at a moment.
-#[derive(Drop)]
+#[derive(Debug, Drop)]
 pub struct Surveyed {
     pub who: Who,
     pub moment: u64,
@@ -78,20 +78,20 @@ pub struct Surveyed {
 }
 
 /// No chunk was found for a command.
-#[derive(Drop)]
+#[derive(Debug, Drop)]
 pub struct Refused {
     pub who: Who,
 }
 
 /// The class has a new limit of chunks from here on. A lower limit evicts nothing by itself.
-#[derive(Drop)]
+#[derive(Debug, Drop)]
 pub struct Limited {
     pub who: Who,
     pub chunks: u64,
 }
 
 /// An event of a slab class's history.
-#[derive(Drop)]
+#[derive(Debug, Drop)]
 pub enum ClassEvent {
     Linked(Linked),
     Unlinked(Unlinked),

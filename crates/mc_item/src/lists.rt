@@ -14,7 +14,7 @@ pub enum Seg {
 }
 
 /// An item's entry in a list: the number of its link, its key, its cost in bytes, and the second from which its age counts.
-#[derive(Drop)]
+#[derive(Debug, Drop)]
 pub struct Entry {
     pub number: u64,
     pub key: Key,
@@ -23,7 +23,7 @@ pub struct Entry {
 }
 
 /// The numbers of at most four entries that a walk passed over, from the tail on. Takes no memory. Contracts see a list.
-#[derive(Drop)]
+#[derive(Debug, Drop)]
 pub struct Passed {
     numbers: [u64; 4],
     count: usize,

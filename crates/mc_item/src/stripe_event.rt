@@ -5,7 +5,7 @@ use crate::key::Key;
 use crate::reply::{Reply, Room};
 
 /// A command was answered.
-#[derive(Drop)]
+#[derive(Debug, Drop)]
 pub struct Did {
     pub who: Who,
     pub command: Command,
@@ -24,7 +24,7 @@ pub enum Cause {
 }
 
 /// An item was lost: it was removed for this cause.
-#[derive(Drop)]
+#[derive(Debug, Drop)]
 pub struct Lost {
     pub who: Who,
     pub key: Key,
@@ -32,14 +32,14 @@ pub struct Lost {
 }
 
 /// An item's ACTIVE mark was cleared.
-#[derive(Drop)]
+#[derive(Debug, Drop)]
 pub struct Cooled {
     pub who: Who,
     pub key: Key,
 }
 
 /// An event of a stripe's history.
-#[derive(Drop)]
+#[derive(Debug, Drop)]
 pub enum StripeEvent {
     Did(Did),
     Lost(Lost),

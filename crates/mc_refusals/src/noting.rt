@@ -1,8 +1,6 @@
 //! What is noted of a stripe and a class: numbers alone.
 use crate::asking::key_of;
-use crate::sums::{
-    mixed, sum_of_all, sum_of_class_event, sum_of_entry, sum_of_item, sum_of_stripe_event,
-};
+use crate::sums::{mixed, sum_of};
 use mc_item::{NoMemory, Seg};
 use mc_segment::ClassState;
 use mc_stripe::StripeState;
@@ -29,7 +27,7 @@ fn sum_of_items(alloc: Global, stripe: &StripeState) -> u64 {
     let mut sum = 0;
     for letter in b'a'..b'g' {
         if let Ok(key) = key_of(alloc, letter) {
-            sum = mixed(sum, sum_of_item(stripe.find(&key)));
+            sum = mixed(sum, sum_of(&stripe.find(&key)));
         }
     }
     sum
@@ -40,7 +38,7 @@ fn sum_of_list(class: &ClassState, seg: Seg) -> u64 {
     let mut sum = 0;
     for place in 0..class.len(seg) {
         if let Some(entry) = class.from_tail(seg, place) {
-            sum = mixed(sum, sum_of_entry(entry));
+            sum = mixed(sum, sum_of(entry));
         }
     }
     sum
@@ -48,12 +46,12 @@ fn sum_of_list(class: &ClassState, seg: Seg) -> u64 {
 
 // The checksum of a class's lists, their bytes and the limit.
 fn sum_of_lists(class: &ClassState) -> u64 {
-    sum_of_all(&[
+    sum_of(&[
         sum_of_list(class, Seg::Hot),
         sum_of_list(class, Seg::Warm),
         sum_of_list(class, Seg::Cold),
         sum_of_list(class, Seg::Temp),
-        sum_of_all(class.figures().as_slice()),
+        sum_of(&class.figures()),
         class.chunks(),
     ])
 }
@@ -79,7 +77,7 @@ fn stripe_sums(alloc: Global, stripe: &StripeState) -> Result<Vec<u64>, NoMemory
     let mut sums = Vec::new(alloc);
     for place in 0..stripe.history().len() {
         if let Some(event) = stripe.history().get(place) {
-            sums.push(sum_of_stripe_event(event))?;
+            sums.push(sum_of(event))?;
         }
     }
     Ok(sums)
@@ -89,7 +87,7 @@ fn class_sums(alloc: Global, class: &ClassState) -> Result<Vec<u64>, NoMemory> {
     let mut sums = Vec::new(alloc);
     for place in 0..class.history().len() {
         if let Some(event) = class.history().get(place) {
-            sums.push(sum_of_class_event(event))?;
+            sums.push(sum_of(event))?;
         }
     }
     Ok(sums)
