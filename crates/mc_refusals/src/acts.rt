@@ -2,7 +2,8 @@
 use crate::asking::{self, Asked};
 use crate::end::End;
 use crate::marks::Marks;
-use crate::{classes, forgetting, walking};
+use crate::walking::{self, Walk};
+use crate::{classes, forgetting};
 use mc_testing::World;
 
 /// What is done to a stripe alone. Keys have 31 bytes, which are all the same letter.
@@ -37,10 +38,7 @@ pub(crate) enum OnBoth {
     JudgeDead,
     JudgeHit,
     JudgeTail,
-    Pull,
-    MakeRoom,
-    Juggle,
-    TakeHit,
+    Walk(Walk),
     TakeLinks,
     Crawl,
 }
@@ -84,10 +82,7 @@ fn make_on_both(world: &mut World, call: OnBoth, marks: Marks) -> End {
         OnBoth::JudgeDead => walking::judge_dead(world, marks),
         OnBoth::JudgeHit => walking::judge_hit(world, marks),
         OnBoth::JudgeTail => walking::judge_tail(world, marks),
-        OnBoth::Pull => walking::pull(world, marks),
-        OnBoth::MakeRoom => walking::make_room(world, marks),
-        OnBoth::Juggle => walking::juggle(world, marks),
-        OnBoth::TakeHit => walking::take_hit(world, marks),
+        OnBoth::Walk(walk) => walking::walk_along(world, walk, marks),
         OnBoth::TakeLinks => walking::take_links(world, marks),
         OnBoth::Crawl => walking::crawl(world, marks),
     }

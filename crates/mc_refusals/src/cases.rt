@@ -1,8 +1,6 @@
 //! The cases, as data.
 use crate::acts::Act::{self, Both, Class, Stripe};
-use crate::acts::OnBoth::{
-    Crawl, JudgeDead, JudgeHit, JudgeTail, Juggle, MakeRoom, Pull, TakeHit, TakeLinks,
-};
+use crate::acts::OnBoth::{Crawl, JudgeDead, JudgeHit, JudgeTail, TakeLinks, Walk};
 use crate::acts::OnClass::{
     Evict, Fill as FillClass, Force, Limit, Link, Reclaim, Refuse, Reserve as ReserveClass, Survey,
     Unlink,
@@ -13,6 +11,7 @@ use crate::readers::Piece::{self, Given, Lent};
 use crate::stores::Called;
 use crate::texts::Text;
 use crate::values::Plain;
+use crate::walking::Walk::{Juggle, MakeRoom, Pull, TakeHit};
 use Call::{
     Make, OpenBoard, OpenStore, OpenTokens, Read, RunOne, RunTwo, Shared, Split, Try, TryTwo,
     World, Write,
@@ -181,10 +180,10 @@ static CASES: [(&str, Call); 66] = [
     ("settle_of_a_tail", World(IN_COLD, Both(JudgeTail))),
     ("attempt_one", Try),
     ("attempt_two", TryTwo),
-    ("pull_tail", World(IN_COLD, Both(Pull))),
-    ("make_room", World(IN_HOT, Both(MakeRoom))),
-    ("juggle", World(IN_HOT, Both(Juggle))),
-    ("advance", World(ACTIVE_IN_COLD, Both(TakeHit))),
+    ("pull_tail", World(IN_COLD, Both(Walk(Pull)))),
+    ("make_room", World(IN_HOT, Both(Walk(MakeRoom)))),
+    ("juggle", World(IN_HOT, Both(Walk(Juggle)))),
+    ("advance", World(ACTIVE_IN_COLD, Both(Walk(TakeHit)))),
     ("snapshot", World(STORED, Both(TakeLinks))),
     ("crawl_one", World(DEAD, Both(Crawl))),
     ("board_open", OpenBoard),

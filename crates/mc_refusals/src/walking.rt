@@ -63,24 +63,19 @@ pub(crate) fn judge_tail(world: &mut World, marks: Marks) -> End {
     end_of(done)
 }
 
-/// Walks along COLD for an entry to take.
-pub(crate) fn pull(world: &mut World, marks: Marks) -> End {
-    let class = &mut world.class;
-    let mut gate = Lone {
-        number: StripeNo(0),
-        stripe: &mut world.stripe,
-        answers: &mut Vec::new(world.alloc),
-    };
-    let context = context(world.alloc, LATER, &world.config);
-    let (seg, mode) = (Seg::Cold, Mode::Evict);
-    marks.begin();
-    let pulled = pull_tail(context, class, seg, mode, &mut gate);
-    marks.end();
-    end_of(pulled)
+/// A step that asks a gate for the stripe of each entry.
+#[derive(Clone, Copy)]
+pub(crate) enum Walk {
+    /// Along COLD for an entry to take.
+    Pull,
+    MakeRoom,
+    Juggle,
+    /// The entry of the first link, whose item was hit, is moved.
+    TakeHit,
 }
 
-/// Makes room in the class.
-pub(crate) fn make_room(world: &mut World, marks: Marks) -> End {
+/// Walks along the lists of the class.
+pub(crate) fn walk_along(world: &mut World, walk: Walk, marks: Marks) -> End {
     let class = &mut world.class;
     let mut gate = Lone {
         number: StripeNo(0),
@@ -89,39 +84,14 @@ pub(crate) fn make_room(world: &mut World, marks: Marks) -> End {
     };
     let context = context(world.alloc, LATER, &world.config);
     marks.begin();
-    let found = gate.make_room(context, class);
-    marks.end();
-    end_of(found)
-}
-
-/// Juggles the class.
-pub(crate) fn juggle(world: &mut World, marks: Marks) -> End {
-    let class = &mut world.class;
-    let mut gate = Lone {
-        number: StripeNo(0),
-        stripe: &mut world.stripe,
-        answers: &mut Vec::new(world.alloc),
+    let end = match walk {
+        Walk::Pull => end_of(pull_tail(context, class, Seg::Cold, Mode::Evict, &mut gate)),
+        Walk::MakeRoom => end_of(gate.make_room(context, class)),
+        Walk::Juggle => end_of(gate.juggle(context, class)),
+        Walk::TakeHit => end_of(advance(context, class, 0, &mut gate)),
     };
-    let context = context(world.alloc, LATER, &world.config);
-    marks.begin();
-    let moves = gate.juggle(context, class);
     marks.end();
-    end_of(moves)
-}
-
-/// Moves the entry of the first link, whose item was hit.
-pub(crate) fn take_hit(world: &mut World, marks: Marks) -> End {
-    let class = &mut world.class;
-    let mut gate = Lone {
-        number: StripeNo(0),
-        stripe: &mut world.stripe,
-        answers: &mut Vec::new(world.alloc),
-    };
-    let context = context(world.alloc, LATER, &world.config);
-    marks.begin();
-    let moved = advance(context, class, 0, &mut gate);
-    marks.end();
-    end_of(moved)
+    end
 }
 
 /// Takes the links of all entries of the class.
