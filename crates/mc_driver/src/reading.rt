@@ -31,43 +31,42 @@ pub(crate) fn read_once<R: Read>(reader: &mut R, room: &mut [u8]) -> io::Result<
     Err(io::Error::from(ErrorKind::TimedOut))
 }
 
-// Reads once into the piece, after the bytes that are already there.
-fn read_behind<R: Read>(reader: &mut R, piece: &mut Vec<u8>, filled: usize) -> io::Result<usize>
-    requires { filled < length piece.old.items }
-    ensures fits { IfOk result (λ n. filled + n ≤ length piece.old.items) }
-    ensures room { length piece.new.items ≡ length piece.old.items }
-    ensures front { take filled piece.new.items ≡ take filled piece.old.items }
-    ensures bytes { IfOk result (λ n. Consumes (R.remaining reader.old) (R.remaining reader.new) (take n (drop filled piece.new.items))) }
+// Reads once into the room, after the bytes that are already there.
+fn read_behind<R: Read>(reader: &mut R, room: &mut Vec<u8>, filled: usize) -> io::Result<usize>
+    requires { filled < length room.old.items }
+    ensures fits { IfOk result (λ n. filled + n ≤ length room.old.items) }
+    ensures room { length room.new.items ≡ length room.old.items }
+    ensures front { take filled room.new.items ≡ take filled room.old.items }
+    ensures bytes { IfOk result (λ n. Consumes (R.remaining reader.old) (R.remaining reader.new) (take n (drop filled room.new.items))) }
     ensures end { IfOk result (λ n. n ≡ 0 → IsAtEnd (R.remaining reader.new)) }
 {
-    read_once(reader, &mut piece.as_mut_slice()[filled..])
+    read_once(reader, &mut room.as_mut_slice()[filled..])
 }
 
-// Reads a piece, which is full unless the reader is at its end.
-fn read_piece<R: Read>(alloc: Global, reader: &mut R) -> io::Result<Vec<u8>>
-    ensures bytes { IfOk result (λ piece. Consumes (R.remaining reader.old) (R.remaining reader.new) piece.items) }
-    ensures end { IfOk result (λ piece. length piece.items < 65536 → IsAtEnd (R.remaining reader.new)) }
+// Reads until the room is full or the reader is at its end. Returns how many bytes came.
+fn read_piece<R: Read>(reader: &mut R, room: &mut Vec<u8>) -> io::Result<usize>
+    ensures fits { IfOk result (λ n. n ≤ length room.old.items) }
+    ensures room { length room.new.items ≡ length room.old.items }
+    ensures bytes { IfOk result (λ n. Consumes (R.remaining reader.old) (R.remaining reader.new) (take n room.new.items)) }
+    ensures end { IfOk result (λ n. n < length room.old.items → IsAtEnd (R.remaining reader.new)) }
 {
-    let mut piece = Vec::new(alloc);
-    piece.resize(PIECE, 0)?;
     let mut filled = 0;
-    while filled < PIECE {
-        let came = read_behind(reader, &mut piece, filled)?;
+    while filled < room.len() {
+        let came = read_behind(reader, room, filled)?;
         if came == 0 {
-            piece.truncate(filled);
-            return Ok(piece);
+            return Ok(filled);
         }
         filled += came;
     }
-    Ok(piece)
+    Ok(filled)
 }
 
-// Appends a piece to the others, unless it is empty.
-fn keep_piece(pieces: &mut VecDeque<Vec<u8>>, piece: Vec<u8>) -> io::Result<()>
-    ensures { OnOk result (flat_map (λ v. v.items) pieces.new.items ≡ flat_map (λ v. v.items) pieces.old.items ++ piece.items) }
+// Appends a copy of some bytes to the pieces, if there are any.
+fn keep_piece(alloc: Global, pieces: &mut VecDeque<Vec<u8>>, bytes: &[u8]) -> io::Result<()>
+    ensures { OnOk result (flat_map (λ v. v.items) pieces.new.items ≡ flat_map (λ v. v.items) pieces.old.items ++ bytes.now) }
 {
-    if !piece.is_empty() {
-        pieces.push_back(piece)?;
+    if !bytes.is_empty() {
+        pieces.push_back(Vec::from_slice(alloc, bytes)?)?;
     }
     Ok(())
 }
@@ -77,10 +76,11 @@ pub(crate) fn read_pieces<R: Read>(alloc: Global, reader: &mut R) -> io::Result<
     ensures { IfOk result (λ input. IfSome (R.remaining reader.old) (λ bytes. flat_map (λ v. v.items) input.items ≡ bytes)) }
 {
     let mut pieces = VecDeque::new(alloc);
+    let mut room = Vec::new(alloc);
+    room.resize(PIECE, 0)?;
     for _ in 0..MOST_READS {
-        let piece = read_piece(alloc, reader)?;
-        let came = piece.len();
-        keep_piece(&mut pieces, piece)?;
+        let came = read_piece(reader, &mut room)?;
+        keep_piece(alloc, &mut pieces, &room.as_slice()[..came])?;
         if came < PIECE {
             return Ok(pieces);
         }

@@ -7,5 +7,5 @@ loop-filled-preserved g c =
     let so_far = c.loop-filled.invariant in (
       c.in_ok-came.ensures.room ∙ so_far.0,
       omega (arith, c.in_ok-came.ensures.fits, so_far.0),
-      filled_more _ _ _ c.loop-filled.piece.items c.read_behind.new.piece.items c.loop-filled.filled c.in_ok-came.came c.in_ok-came.ensures.front so_far.2 c.in_ok-came.ensures.bytes,
+      filled_more _ _ _ c.loop-filled.room.items c.read_behind.new.room.items c.loop-filled.filled c.in_ok-came.came c.in_ok-came.ensures.front so_far.2 c.in_ok-came.ensures.bytes,
     )
