@@ -1,7 +1,5 @@
 //! Times a class: links, forced moves from a tail, hits in a random order, and removals in a random order; and links
 //! of which few stay.
-ghost use Rattle.std.specs.Prelude.{◌≡◌, IfSome};
-ghost use Rattle.mc_item.specs.Config.{IsBounded, IsSound};
 
 use crate::{nanos_each, print_row};
 use mc_item::{ClassNo, Config, Expiry, Fault, Key, Numbers, Passed, Seg, Shifted, Who, Why};
@@ -148,17 +146,6 @@ fn time_loads(
     print_row(rt, "kilobytes at the peak", entries, peak(rt))
 }
 
-/// The configuration, where it is sound.
-pub(crate) fn checked(config: Config) -> Option<Config>
-    ensures sound { IfSome result (λ c. IsSound c × (c ≡ config)) }
-    ensures bounded { IfSome result IsBounded }
-{
-    match config.check() {
-        Ok(config) => Some(config),
-        Err(_) => None,
-    }
-}
-
 // The configuration of a class with this many chunks.
 fn with_chunks(alloc: Global, chunks: u64) -> Option<Config> {
     let sizes = Numbers::from_vec(Vec::from_slice(alloc, &[96]).ok()?);
@@ -173,7 +160,7 @@ fn with_chunks(alloc: Global, chunks: u64) -> Option<Config> {
 }
 
 fn class_with(alloc: Global, chunks: u64) -> Option<ClassState> {
-    let config = checked(with_chunks(alloc, chunks)?)?;
+    let config = with_chunks(alloc, chunks)?.check().ok()?;
     Some(ClassState::new(alloc, ClassNo(1), &config))
 }
 

@@ -1,8 +1,9 @@
 //! Many commands on one store that lets its events go, and the memory that it takes.
-ghost use Rattle.std.specs.Prelude.{◌≡◌};
+ghost use Rattle.std.specs.Prelude.{◌≡◌, IfSome};
+ghost use Rattle.mc_item.specs.Config.{IsBounded, IsSound};
 ghost use Rattle.mc_store.specs.Opening.{AreParts};
 
-use crate::lists::{checked, peak};
+use crate::lists::peak;
 use crate::{nanos_each, print_row};
 use mc_item::{Command, Config, Fault, Key, NoMemory, Numbers, Value, Verb};
 use mc_store::{Named, Pass, Store, Tokens};
@@ -42,17 +43,24 @@ const KEYS: u64 = 10_000;
 const MANY_KEYS: u64 = 400_000;
 
 // One stripe, one class with two chunks for each key that is got or set, one caller, and histories of the greatest length.
-fn config_of(alloc: Global) -> Option<Config> {
+fn config_of(alloc: Global) -> Option<Config>
+    ensures sound { IfSome result IsSound }
+    ensures bounded { IfSome result IsBounded }
+{
     let sizes = Numbers::from_vec(Vec::from_slice(alloc, &[240]).ok()?);
     let chunks = Numbers::from_vec(Vec::from_slice(alloc, &[2 * KEYS]).ok()?);
     let usual = Config::usual(alloc, 1).ok()?;
-    Some(Config {
+    let config = Config {
         sizes,
         chunks,
         max_events: 1 << 32,
         keeps_events: false,
         ..usual
-    })
+    };
+    match config.check() {
+        Ok(config) => Some(config),
+        Err(_) => None,
+    }
 }
 
 fn key_of(alloc: Global, number: u64) -> Result<Key, NoMemory> {
@@ -175,7 +183,7 @@ fn run<N: Named>(rt: &HostRuntime, wait: &impl Wait, parts: Parts) -> io::Result
 /// Times a hundred million commands of each load.
 pub(crate) fn time_long(rt: &HostRuntime, wait: &impl Wait) -> io::Result<()> {
     let seed = RandomState::new(rt)?;
-    let Some(config) = config_of(rt.alloc()).and_then(checked) else {
+    let Some(config) = config_of(rt.alloc()) else {
         return println!(rt; "no configuration");
     };
     let Ok(tokens) = Tokens::open(rt.alloc(), &config) else {

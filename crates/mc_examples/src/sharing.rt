@@ -1,6 +1,5 @@
 //! A store that threads share: two of them count visits, and a third caller reads.
 ghost use Rattle.std.specs.Prelude.{◌≡◌, ◌<◌, IfSome, length};
-ghost use Rattle.mc_item.specs.Config.{IsBounded, IsSound};
 ghost use Rattle.mc_store.specs.Opening.{AreParts};
 
 use crate::no_memory;
@@ -29,22 +28,11 @@ struct Read {
     figures: Result<Figures, Busy>,
 }
 
-// The configuration, where it is sound.
-fn checked(config: Config) -> Option<Config>
-    ensures sound { IfSome result (λ c. IsSound c × (c ≡ config)) }
-    ensures bounded { IfSome result IsBounded }
-{
-    match config.check() {
-        Ok(config) => Some(config),
-        Err(_) => None,
-    }
-}
-
 // The parts of a store of the usual configuration with three callers.
 fn parts_for(alloc: Global, seed: RandomState) -> Option<Parts>
     ensures { IfSome result (λ p. AreParts p.tokens.board p.config p.tokens.queues p.tokens) }
 {
-    let config = checked(Config::usual(alloc, 3).ok()?)?;
+    let config = Config::usual(alloc, 3).ok()?.check().ok()?;
     match Tokens::open(alloc, &config) {
         Ok(tokens) => Some(Parts {
             config,

@@ -1,7 +1,7 @@
 //! The configuration of a store.
-ghost use Rattle.std.specs.Prelude.{◌≡◌, IfOk, MatchOption, MatchResult, Ok, Err};
+ghost use Rattle.std.specs.Prelude.{◌≡◌, IfErr, IfOk, Some};
 ghost use Rattle.std.specs.List.{list_all};
-ghost use Rattle.mc_item.specs.Config.{is_limit, is_size, fault_of, IsBounded, usual_config, usual_sizes};
+ghost use Rattle.mc_item.specs.Config.{is_limit, is_size, fault_of, IsBounded, IsSound, usual_config, usual_sizes};
 
 use crate::fault::NoMemory;
 use crate::numbers::Numbers;
@@ -176,8 +176,10 @@ impl Config {
 
     /// Returns the configuration unchanged, or fails with the first thing that is wrong with it. Takes any numbers and no memory.
     pub fn check(self) -> Result<Config, ConfigFault>
-        ensures fault { MatchOption (fault_of self) (result ≡ Ok self) (λ fault. result ≡ Err fault) }
+        ensures same { IfOk result (λ config. config ≡ self) }
+        ensures sound { IfOk result IsSound }
         ensures bounded { IfOk result IsBounded }
+        ensures fault { IfErr result (λ fault. fault_of self ≡ Some fault) }
     {
         match self.fault() {
             Some(fault) => Err(fault),

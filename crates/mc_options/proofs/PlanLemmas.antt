@@ -1,8 +1,7 @@
--- What follows of a plan: of its configuration, by what the check of it answered, and of its moments.
+-- What follows of a plan: of its configuration, and of its moments.
 use Rattle.std.proofs.Common.{◌≡◌, ◌≤◌, ◌^◌, ℕ, List, Bool, false, Option, Some, None, arith, refl, subst, sym}
 use Rattle.std.specs.{List.All, Option.unwrap_or}
-use Rattle.std.specs.Prelude.{MatchOption, Result, Ok, Err}
-use Rattle.mc_item.specs.declared.{config.Config.Config, config.ConfigFault.ConfigFault}
+use Rattle.mc_item.specs.declared.{config.Config.Config}
 use Rattle.mc_options.specs.Asked.{AreMomentsNamed, with_events, with_stripes, with_temp_ttl}
 
 -- a number of stripes is left as it was where none is given
@@ -18,16 +17,6 @@ ends_given None None temp config = refl
 ends_given None (Some n) temp config = refl
 ends_given (Some n) None temp config = refl
 ends_given (Some n) (Some m) temp config = refl
-
--- a configuration that was handed back is the one that was handed in, and nothing is wrong with it
-pub check_passed : (given back : Config) (r : Result Config ConfigFault) (fault : Option ConfigFault) → r ≡ Ok back → MatchOption fault (r ≡ Ok given) (λ f. r ≡ Err f) → (fault ≡ None) × (back ≡ given)
-check_passed given back r None at is = (refl, cc)
-check_passed given back r (Some f) at is = absurd (cc)
-
--- a configuration that was refused has the fault
-pub check_failed : (given : Config) (r : Result Config ConfigFault) (f : ConfigFault) (fault : Option ConfigFault) → r ≡ Err f → MatchOption fault (r ≡ Ok given) (λ f. r ≡ Err f) → fault ≡ Some f
-check_failed given r f None at is = absurd (cc)
-check_failed given r f (Some g) at is = cc
 
 -- moments that words ask for are early
 pub moments_early : (text : Option (List ℕ)) (moments : List ℕ) → AreMomentsNamed text moments → All (λ moment. moment ≤ 2 ^ 62) moments

@@ -1,5 +1,5 @@
 //! Cases on a stripe and a class: what is done before the call, the call, and what came of it.
-ghost use Rattle.std.specs.Prelude.{◌≡◌, IfSome};
+ghost use Rattle.std.specs.Prelude.{IfSome};
 ghost use Rattle.mc_item.specs.Config.{IsBounded, IsSound};
 
 use crate::acts::{Act, make};
@@ -25,23 +25,15 @@ fn config_of(alloc: Global, sizes: &[u64]) -> Result<Config, NoMemory> {
     })
 }
 
-/// Returns the configuration, where it is sound.
-pub(crate) fn checked(config: Config) -> Option<Config>
-    ensures sound { IfSome result (λ c. IsSound c × (c ≡ config)) }
-    ensures bounded { IfSome result IsBounded }
-{
-    match config.check() {
-        Ok(config) => Some(config),
-        Err(_) => None,
-    }
-}
-
 /// Returns a configuration of one stripe, and for each of these sizes a class of four chunks, where it is sound.
 pub(crate) fn sound_config_for(alloc: Global, sizes: &[u64]) -> Option<Config>
     ensures sound { IfSome result IsSound }
     ensures bounded { IfSome result IsBounded }
 {
-    checked(config_of(alloc, sizes).ok()?)
+    match config_of(alloc, sizes).ok()?.check() {
+        Ok(config) => Some(config),
+        Err(_) => None,
+    }
 }
 
 /// Returns a sound configuration of one stripe, and one class of four chunks of 200 bytes.

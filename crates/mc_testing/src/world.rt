@@ -27,13 +27,6 @@ pub struct World {
     ghost sound: { IsWorld config class stripe },
 }
 
-fn checked(config: Config) -> Result<Config, Fail>
-    ensures sound { IfOk result (λ c. IsSound c × (c ≡ config)) }
-    ensures bounded { IfOk result IsBounded }
-{
-    Ok(config.check()?)
-}
-
 /// Returns the usual configuration, but with one slab class of this many chunks of 96 bytes.
 pub fn one_class(alloc: Global, chunks: u64) -> Result<Config, Fail> {
     let sizes = Numbers::from_vec(Vec::from_slice(alloc, &[96])?);
@@ -48,7 +41,7 @@ pub fn one_class(alloc: Global, chunks: u64) -> Result<Config, Fail> {
 
 /// Opens the first stripe and the first class of this configuration. Fails if the configuration isn't sound.
 pub fn opened<R: RandomSource>(rt: &R, alloc: Global, config: Config) -> Result<World, Fail> {
-    let config = checked(config)?;
+    let config = config.check()?;
     let seed = RandomState::new(rt)?;
     let class = ClassState::new(alloc, ClassNo(1), &config);
     let stripe = StripeState::new(alloc, StripeNo(0), &config, seed);

@@ -1,7 +1,6 @@
 //! Each kind of event of a class, read back from its history.
 ghost use Rattle.std.specs.Prelude.{◌≡◌, ◌≤◌, ◌^◌, IfOk};
 
-use super::class_lists::checked;
 use super::deeds::{
     Call, New, evict, force, hit, link, reclaim, refuse, try_set_chunks, unlink, wake,
 };
@@ -29,15 +28,15 @@ fn class_of_six(alloc: Global) -> Result<ClassState, Fail>
     let sizes = Numbers::from_vec(Vec::from_slice(alloc, &[96])?);
     let chunks = Numbers::from_vec(Vec::from_slice(alloc, &[6])?);
     let usual = Config::usual(alloc, 3)?;
-    let config = checked(Config {
+    let config = Config {
         sizes,
         chunks,
         hot_percent: 20,
         hot_factor: 20,
         max_events: 32,
         ..usual
-    })?;
-    Ok(ClassState::new(alloc, ClassNo(1), &config))
+    };
+    Ok(ClassState::new(alloc, ClassNo(1), &config.check()?))
 }
 
 // Who makes the event of a turn, and the place that it cites.

@@ -18,26 +18,20 @@ use std::alloc::Global;
 use std::process::Abort;
 use std::test::Fail;
 
-pub(super) fn checked(config: Config) -> Result<Config, Fail>
-    ensures { IfOk result (λ c. IsSound c × (c ≡ config)) }
-{
-    Ok(config.check()?)
-}
-
 /// A class that begins so.
 pub(super) fn class_of(alloc: Global, start: Start) -> Result<ClassState, Fail> {
     let sizes = Numbers::from_vec(Vec::from_slice(alloc, &[96])?);
     let chunks = Numbers::from_vec(Vec::from_slice(alloc, &[start.chunks])?);
     let usual = Config::usual(alloc, 3)?;
-    let config = checked(Config {
+    let config = Config {
         sizes,
         chunks,
         temp: start.temp,
         max_events: start.max_events,
         keeps_events: start.keeps_events,
         ..usual
-    })?;
-    Ok(ClassState::new(alloc, ClassNo(1), &config))
+    };
+    Ok(ClassState::new(alloc, ClassNo(1), &config.check()?))
 }
 
 // A class of so many chunks without TEMP; its history holds 16 events, and keeps them.

@@ -38,13 +38,6 @@ pub struct Pair {
     pub moment: u64,
 }
 
-fn checked(config: Config) -> Result<Config, Fail>
-    ensures sound { IfOk result IsSound }
-    ensures bounded { IfOk result IsBounded }
-{
-    Ok(config.check()?)
-}
-
 // A configuration of one stripe, with so many chunks of each class, and places of each history.
 fn two_classes(alloc: Global, chunks: u64, places: u64) -> Result<Config, Fail> {
     let usual = Config::usual(alloc, 1)?;
@@ -65,7 +58,7 @@ pub(super) fn opened<R: RandomSource>(
 ) -> Result<Pair, Fail>
     ensures met { IfOk result (λ p. AreMet p.config p.stripe p.first p.second) }
 {
-    let config = checked(two_classes(alloc, chunks, places)?)?;
+    let config = two_classes(alloc, chunks, places)?.check()?;
     let seed = RandomState::new(rt)?;
     if config.sizes.as_slice().len() < 2 {
         return Err(Fail::from("there is no second class"));

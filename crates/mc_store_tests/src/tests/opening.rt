@@ -3,7 +3,7 @@ ghost use Rattle.std.specs.Prelude.{◌≡◌, IfOk, length};
 ghost use Rattle.mc_item.specs.Config.{IsBounded, IsSound};
 ghost use Rattle.mc_store.specs.Opening.{AreParts};
 
-use mc_item::{Config, ConfigFault, Numbers};
+use mc_item::{Config, Numbers};
 use mc_store::{Final, Named, Pass, Store, Tokens};
 use std::alloc::Global;
 use std::hash::RandomState;
@@ -16,14 +16,6 @@ pub(super) struct Parts {
     pub(super) config: Config,
     pub(super) tokens: Tokens,
     pub(super) seed: RandomState,
-}
-
-// The configuration, where it is sound.
-fn checked(config: Config) -> Result<Config, ConfigFault>
-    ensures sound { IfOk result (λ c. IsSound c × (c ≡ config)) }
-    ensures bounded { IfOk result IsBounded }
-{
-    Ok(config.check()?)
 }
 
 /// So many stripes and callers, and two classes of 96 and of 120 bytes with these many chunks.
@@ -54,7 +46,7 @@ pub(super) fn parts_for<R: Abort + RandomSource>(rt: &R, alloc: Global, config: 
     ensures config { result.config ≡ config }
     ensures fit { AreParts result.tokens.board result.config result.tokens.queues result.tokens }
 {
-    let config = checked(config).expect(rt, "a sound configuration");
+    let config = config.check().expect(rt, "a sound configuration");
     let tokens = Tokens::open(alloc, &config).expect(rt, "tokens");
     let seed = RandomState::new(rt).expect(rt, "a seed");
     Parts {
