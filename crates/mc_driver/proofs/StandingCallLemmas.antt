@@ -150,18 +150,7 @@ stands_as_later config seen old new who moment (Crawls class) (Counted histogram
 stands_as_later config seen old new who moment (Limits class n) Limited grow placed stands =
     let longer = grow.classes class placed in
     subst (λ (h : List ClassEvent). NotesLimit (seen.classes class) h who n) longer.1 (NotesLimit-append (seen.classes class) (old.classes class) longer.0 who n stands)
-stands_as_later config seen old new who moment (Asks command) (Moved moves) grow placed stands = absurd stands
-stands_as_later config seen old new who moment (Asks command) (Counted histogram) grow placed stands = absurd stands
-stands_as_later config seen old new who moment (Juggles class) (Counted histogram) grow placed stands = absurd stands
-stands_as_later config seen old new who moment (Crawls class) (Replied reply) grow placed stands = absurd stands
-stands_as_later config seen old new who moment (Crawls class) (Moved moves) grow placed stands = absurd stands
-stands_as_later config seen old new who moment (Juggles class) (Replied reply) grow placed stands = absurd stands
-stands_as_later config seen old new who moment (Asks command) Limited grow placed stands = absurd stands
-stands_as_later config seen old new who moment (Juggles class) Limited grow placed stands = absurd stands
-stands_as_later config seen old new who moment (Crawls class) Limited grow placed stands = absurd stands
-stands_as_later config seen old new who moment (Limits class n) (Replied reply) grow placed stands = absurd stands
-stands_as_later config seen old new who moment (Limits class n) (Moved moves) grow placed stands = absurd stands
-stands_as_later config seen old new who moment (Limits class n) (Counted histogram) grow placed stands = absurd stands
+stands_as_later config seen old new who moment call answer grow placed stands = absurd stands
 
 -- ---- less that was seen
 
@@ -237,18 +226,7 @@ stands_as_less config less seen histories who moment (Crawls class) (Counted his
     NotesCrawling-less config (less.classes class) (seen.classes class) (histories.classes class) who class moment histogram (grow.classes class placed) stands
 stands_as_less config less seen histories who moment (Limits class n) Limited grow placed stands =
     NotesLimit-less (less.classes class) (seen.classes class) (histories.classes class) who n (grow.classes class placed) stands
-stands_as_less config less seen histories who moment (Asks command) (Moved moves) grow placed stands = absurd stands
-stands_as_less config less seen histories who moment (Asks command) (Counted histogram) grow placed stands = absurd stands
-stands_as_less config less seen histories who moment (Juggles class) (Counted histogram) grow placed stands = absurd stands
-stands_as_less config less seen histories who moment (Crawls class) (Replied reply) grow placed stands = absurd stands
-stands_as_less config less seen histories who moment (Crawls class) (Moved moves) grow placed stands = absurd stands
-stands_as_less config less seen histories who moment (Juggles class) (Replied reply) grow placed stands = absurd stands
-stands_as_less config less seen histories who moment (Asks command) Limited grow placed stands = absurd stands
-stands_as_less config less seen histories who moment (Juggles class) Limited grow placed stands = absurd stands
-stands_as_less config less seen histories who moment (Crawls class) Limited grow placed stands = absurd stands
-stands_as_less config less seen histories who moment (Limits class n) (Replied reply) grow placed stands = absurd stands
-stands_as_less config less seen histories who moment (Limits class n) (Moved moves) grow placed stands = absurd stands
-stands_as_less config less seen histories who moment (Limits class n) (Counted histogram) grow placed stands = absurd stands
+stands_as_less config less seen histories who moment call answer grow placed stands = absurd stands
 
 -- ---- calls in turn
 

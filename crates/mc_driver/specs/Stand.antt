@@ -47,18 +47,7 @@ StandsAs config seen histories who moment (Juggles class) (Moved moves) =
 StandsAs config seen histories who moment (Crawls class) (Counted histogram) =
     NotesCrawling config (seen.classes class) (histories.classes class) who class moment histogram
 StandsAs config seen histories who moment (Limits class n) Limited = NotesLimit (seen.classes class) (histories.classes class) who n
-StandsAs config seen histories who moment (Asks command) (Moved moves) = ⊥
-StandsAs config seen histories who moment (Asks command) (Counted histogram) = ⊥
-StandsAs config seen histories who moment (Asks command) Limited = ⊥
-StandsAs config seen histories who moment (Juggles class) (Replied reply) = ⊥
-StandsAs config seen histories who moment (Juggles class) (Counted histogram) = ⊥
-StandsAs config seen histories who moment (Juggles class) Limited = ⊥
-StandsAs config seen histories who moment (Crawls class) (Replied reply) = ⊥
-StandsAs config seen histories who moment (Crawls class) (Moved moves) = ⊥
-StandsAs config seen histories who moment (Crawls class) Limited = ⊥
-StandsAs config seen histories who moment (Limits class n) (Replied reply) = ⊥
-StandsAs config seen histories who moment (Limits class n) (Moved moves) = ⊥
-StandsAs config seen histories who moment (Limits class n) (Counted histogram) = ⊥
+StandsAs config seen histories who moment call answer = ⊥
 
 -- the histories have this exchange after what was seen: with its caller and turn, its call, its moment and its answer (for a new
 -- limit no moment is noted)

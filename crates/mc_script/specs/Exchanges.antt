@@ -17,18 +17,7 @@ IsOfKind (Asks command) (Replied reply) = Unit {0}
 IsOfKind (Juggles class) (Moved moves) = Unit {0}
 IsOfKind (Crawls class) (Counted histogram) = Unit {0}
 IsOfKind (Limits class n) Limited = Unit {0}
-IsOfKind (Asks command) (Moved moves) = ⊥
-IsOfKind (Asks command) (Counted histogram) = ⊥
-IsOfKind (Asks command) Limited = ⊥
-IsOfKind (Juggles class) (Replied reply) = ⊥
-IsOfKind (Juggles class) (Counted histogram) = ⊥
-IsOfKind (Juggles class) Limited = ⊥
-IsOfKind (Crawls class) (Replied reply) = ⊥
-IsOfKind (Crawls class) (Moved moves) = ⊥
-IsOfKind (Crawls class) Limited = ⊥
-IsOfKind (Limits class n) (Replied reply) = ⊥
-IsOfKind (Limits class n) (Moved moves) = ⊥
-IsOfKind (Limits class n) (Counted histogram) = ⊥
+IsOfKind call answer = ⊥
 
 -- each of these answers fits its call; the last calls may have none
 abbrev pub AreAnswers : List ScriptCall → List Answer → Type 0
