@@ -8,7 +8,7 @@ use crate::acts::OnClass::{
 use crate::acts::OnStripe::{Ask, Cool, Expire, Fill, Reserve, Take};
 use crate::asking::Asked::{Delete, Gat, Get, Incr, Store, Touch};
 use crate::readers::Piece::{self, Given, Lent};
-use crate::stores::Called;
+use crate::stores::{Called, Work};
 use crate::texts::Text;
 use crate::values::Plain;
 use crate::walking::Walk::{Juggle, MakeRoom, Pull, TakeHit};
@@ -193,9 +193,15 @@ static CASES: [(&str, Call); 66] = [
     ("store_set", Shared(&[], SET_SHARED)),
     ("store_append", Shared(&[SET_SHARED], APPEND_SHARED)),
     ("store_set_for_a_chunk", Shared(FULL_SHARED, SET_SHARED)),
-    ("store_juggle", Shared(FULL_SHARED, Called::Juggle)),
-    ("store_crawl", Shared(DYING_SHARED, Called::Crawl)),
-    ("store_chunks", Shared(&[], Called::Limit)),
+    (
+        "store_juggle",
+        Shared(FULL_SHARED, Called::Class(Work::Juggle)),
+    ),
+    (
+        "store_crawl",
+        Shared(DYING_SHARED, Called::Class(Work::Crawl)),
+    ),
+    ("store_chunks", Shared(&[], Called::Class(Work::Limit))),
     ("run_script", RunOne),
     ("run_scripts", RunTwo),
 ];

@@ -8,7 +8,7 @@ use crate::end::{End, Outcome, end_if, end_of};
 use crate::marks::Marks;
 use crate::noting::{Events, Note, begins, events_of, note_of};
 use crate::worlds::{outcome_by, sound_config};
-use mc_item::{ClassNo, Command, Config, StripeEvent, StripeNo};
+use mc_item::{ClassNo, Config, StripeEvent, StripeNo};
 use mc_segment::ClassState;
 use mc_store::{Final, Named, Pass, Store, Tokens};
 use mc_stripe::StripeState;
@@ -22,11 +22,18 @@ use std::sync::Wait;
 pub(crate) enum Called {
     /// A command at 1000 on the key of 31 times this letter.
     Command(u8, Asked),
-    /// The class is juggled at 1001.
+    /// On the class.
+    Class(Work),
+}
+
+/// Work on the class.
+#[derive(Clone, Copy)]
+pub(crate) enum Work {
+    /// It is juggled at 1001.
     Juggle,
-    /// The class is crawled at 1001.
+    /// It is crawled at 1001.
     Crawl,
-    /// The class's limit becomes two chunks.
+    /// Its limit becomes two chunks.
     Limit,
 }
 
@@ -82,20 +89,8 @@ fn left_in(alloc: Global, ledger: &Final, end: End) -> Option<Left>
     )
 }
 
+// Makes a command.
 fn ask<N: Named>(
-    rt: &impl Wait,
-    store: &Store<N>,
-    pass: &mut Pass<N>,
-    command: Command,
-    marks: Marks,
-) -> End {
-    marks.begin();
-    let reply = store.command(marks.alloc, rt, pass, command, MOMENT);
-    marks.end();
-    end_of(reply)
-}
-
-fn ask_of<N: Named>(
     rt: &impl Wait,
     store: &Store<N>,
     pass: &mut Pass<N>,
@@ -106,37 +101,34 @@ fn ask_of<N: Named>(
     let Ok(key) = key_of(marks.alloc, letter) else {
         return End::Other;
     };
-    match command_of(marks.alloc, key, asked) {
-        Ok(command) => ask(rt, store, pass, command, marks),
-        Err(_) => End::Other,
-    }
+    let Ok(command) = command_of(marks.alloc, key, asked) else {
+        return End::Other;
+    };
+    marks.begin();
+    let reply = store.command(marks.alloc, rt, pass, command, MOMENT);
+    marks.end();
+    end_of(reply)
 }
 
-fn juggle<N: Named>(rt: &impl Wait, store: &Store<N>, pass: &mut Pass<N>, marks: Marks) -> End
+// Works on the class.
+fn work_on<N: Named>(
+    rt: &impl Wait,
+    store: &Store<N>,
+    pass: &mut Pass<N>,
+    called: Work,
+    marks: Marks,
+) -> End
     requires class { 0 < length N.config.sizes }
 {
+    let class = ClassNo(1);
     marks.begin();
-    let moves = store.juggle(marks.alloc, rt, pass, ClassNo(1), LATER);
+    let end = match called {
+        Work::Juggle => end_of(store.juggle(marks.alloc, rt, pass, class, LATER)),
+        Work::Crawl => end_of(store.crawl(marks.alloc, rt, pass, class, LATER)),
+        Work::Limit => end_of(store.chunks(rt, pass, class, 2)),
+    };
     marks.end();
-    end_of(moves)
-}
-
-fn crawl<N: Named>(rt: &impl Wait, store: &Store<N>, pass: &mut Pass<N>, marks: Marks) -> End
-    requires class { 0 < length N.config.sizes }
-{
-    marks.begin();
-    let counts = store.crawl(marks.alloc, rt, pass, ClassNo(1), LATER);
-    marks.end();
-    end_of(counts)
-}
-
-fn limit<N: Named>(rt: &impl Wait, store: &Store<N>, pass: &mut Pass<N>, marks: Marks) -> End
-    requires class { 0 < length N.config.sizes }
-{
-    marks.begin();
-    let done = store.chunks(rt, pass, ClassNo(1), 2);
-    marks.end();
-    end_of(done)
+    end
 }
 
 fn make<N: Named>(
@@ -149,10 +141,8 @@ fn make<N: Named>(
     requires class { 0 < length N.config.sizes }
 {
     match called {
-        Called::Command(letter, asked) => ask_of(rt, store, pass, letter, asked, marks),
-        Called::Juggle => juggle(rt, store, pass, marks),
-        Called::Crawl => crawl(rt, store, pass, marks),
-        Called::Limit => limit(rt, store, pass, marks),
+        Called::Command(letter, asked) => ask(rt, store, pass, letter, asked, marks),
+        Called::Class(called) => work_on(rt, store, pass, called, marks),
     }
 }
 
