@@ -29,10 +29,15 @@ pub(crate) fn write(alloc: Global, text: Text, marks: Marks) -> End {
     let Ok(value) = value_of(alloc, "12345") else {
         return End::Other;
     };
-    let (flags, cas) = (7, 1);
-    let found = Reply::Value { flags, value, cas };
-    let (reclaimed, moved) = (1, 2);
-    let moves = Moves { reclaimed, moved };
+    let found = Reply::Value {
+        flags: 7,
+        value,
+        cas: 1,
+    };
+    let moves = Moves {
+        reclaimed: 1,
+        moved: 2,
+    };
     let words = ["mcseg", "--stripes", "4", "--sizes", "96,200"];
     marks.begin();
     let end = match text {
