@@ -80,7 +80,7 @@ abbrev pub event_for : Exchange → CallEvent
 event_for call = call_event_of call.call call.moment
 
 -- calls have a turn each
-turns_for-length : (calls : List Exchange) → length (turns_for calls None) ≡ length calls
+pub turns_for-length : (calls : List Exchange) → length (turns_for calls None) ≡ length calls
 turns_for-length calls = ap (λ (l : List CallEvent). length l) (append-nil (map event_for calls)) ∙ length-map calls event_for
 
 -- the turn of a call, where none broke off

@@ -166,7 +166,7 @@ starts : (config : Config) (queues : List HitsView) (caller : ℕ) → 0 < confi
 starts config queues caller some = record {
   may = record { some = some; turns = refl };
   first = refl;
-  none = record { stand = grow_nothing config _; at = λ n below. tt; rising = λ n below. tt; own = record { each = λ turn call at. absurd (cc at) }; turns = refl };
+  none = record { stand = grow_nothing config _; at = λ n below. tt; rising = λ n below. tt; own = record { each = λ turn call at. absurd (cc at) }; turns = refl; before = record { each = λ k span at. absurd (cc at) } };
 }
 
 -- each job begins with such a pass

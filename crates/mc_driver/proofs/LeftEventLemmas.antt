@@ -1,22 +1,23 @@
 -- Whose the events of a closed store are.
-use Rattle.std.proofs.Common.{◌≡◌, ◌<◌, ◌+◌, ◌-◌, ℕ, suc, List, [], ◌∷◌, Some, None, refl, sym, ap, ◌∙◌, subst, arith, inl, inr, length, length-append}
+use Rattle.std.proofs.Common.{◌≡◌, ◌<◌, ◌+◌, ◌-◌, ℕ, suc, List, [], ◌∷◌, Some, None, refl, sym, ap, ◌∙◌, subst, arith, inl, inr, length}
 use Rattle.std.specs.Prelude.{slice_get}
 use Rattle.std.proofs.lemmas.Bool.{cases_lt}
 use Rattle.mc_item.specs.declared.{call_event.CallEvent.CallEvent, class_event.ClassEvent.ClassEvent, config.Config.Config, item.ClassNo.ClassNo, item.Who.Who}
-use Rattle.mc_item.specs.declared.{class_event.Limited.Limited, stripe_event.StripeEvent.StripeEvent}
+use Rattle.mc_item.specs.declared.{stripe_event.StripeEvent.StripeEvent}
 use Rattle.mc_item.specs.declared.class_event.ClassEvent.TheVariants as entries
 use Rattle.mc_item.specs.declared.stripe_event.StripeEvent.TheVariants as events
 use Rattle.mc_evidence.specs.Setting.{IsClass}
 use Rattle.mc_script.specs.Exchanges.{Exchange}
 use Rattle.mc_board.specs.Accounts.{maker_of, who_of}
 use Rattle.mc_store.specs.Callers.{IsBegun, IsOf, limits_of, moment_of, turns_of}
-use Rattle.mc_store.specs.{Locked.setting_of, Made.IsLimitCalled, Made.WasCalled}
+use Rattle.mc_store.specs.{Locked.setting_of, Made.WasCalled}
 use Rattle.mc_store.specs.Finals.{AreClasses, AreStripes, FinalView, class_histories, class_history, stripe_histories, stripe_history}
 use Rattle.mc_store.specs.{Passes.PassView, Sides.ClassSide, Sides.StripeSide}
 use Rattle.mc_store.proofs.NumberOrderLemmas.{get_some}
-use Rattle.mc_driver.specs.Called.{AreByCallers, AreCalledBy, AreInTurn, AreItsCalls, AreWholeTurns, IsAtMoment, IsCompared}
-use Rattle.mc_driver.specs.{Run.callers_at_work, Run.histories_left, Stand.Histories, Stand.nothing_seen}
-use Rattle.mc_driver.proofs.{CalledEventLemmas.event_for, CalledEventLemmas.moment_of_call_event, CalledEventLemmas.turn_at, CalledEventLemmas.turns_for-at, CalledEventLemmas.turns_of-append, StandingCallLemmas.stand_at}
+use Rattle.mc_driver.specs.Called.{AreByCallers, AreCalledBy, AreInTurn, AreItsCalls, AreWholeTurns, HasCall, IsAtMoment, IsCompared}
+use Rattle.mc_driver.specs.{Run.callers_at_work, Run.histories_left, Stand.Histories, Stand.MakesOnly, Stand.nothing_seen}
+use Rattle.mc_driver.proofs.CalledEventLemmas.{event_for, moment_of_call_event, turn_at, turns_for-at, turns_of-append}
+use Rattle.mc_driver.proofs.{NotedPlaceLemmas.get_next, StandingCallLemmas.stand_at}
 
 -- an event's moment is that of its call
 moment_of_call : (stripe place : ℕ) (event : StripeEvent) (call : CallEvent) (behind : List CallEvent) (moment handed : ℕ) → moment_of call ≡ Some moment
@@ -31,12 +32,26 @@ moment_of_call stripe place (events.Cooled cooled) call behind moment handed is 
 who_by : (who : Who) (caller : ℕ) → who.caller ≡ caller → who ≡ record { caller = caller; turn = who.turn }
 who_by who caller is = ap (λ (n : ℕ). record who { caller = n }) is
 
--- the call of an event is one of these, in its turn
-call_at : (config : Config) (caller : ℕ) (histories : Histories) (calls : List Exchange) (turn moment : ℕ) → (are : AreItsCalls config caller histories calls None)
-    → (begun : IsBegun are.history turn moment) → (call : Exchange) × (slice_get calls turn ≡ Some call) × (begun.call ≡ event_for call)
-call_at config caller histories calls turn moment are begun =
-    turns_for-at calls turn begun.call (ap (λ (l : List CallEvent). slice_get l turn) (sym are.just)
-    ∙ turn_at are.history begun.before begun.call begun.behind turn moment begun.split begun.turn_is begun.handed)
+-- a call that was begun in a turn is that turn's
+begun_turn : (history : List CallEvent) (turn moment : ℕ) → (begun : IsBegun history turn moment) → slice_get (turns_of history) turn ≡ Some begun.call
+begun_turn history turn moment begun = turn_at history begun.before begun.call begun.behind turn moment begun.split begun.turn_is begun.handed
+
+-- an event of a class that was called has its turn in its caller's history
+class_turn : (history : List CallEvent) (class : ClassNo) (event : ClassEvent) → WasCalled history class event → (call : CallEvent) × (slice_get (turns_of history) (maker_of event).turn ≡ Some call)
+class_turn history class (entries.Linked e) was = (_, begun_turn history e.who.turn was.moment was.begun)
+class_turn history class (entries.Unlinked e) was = (_, begun_turn history e.who.turn was.moment was.begun)
+class_turn history class (entries.Shifted e) was = (_, begun_turn history e.who.turn was.moment was.begun)
+class_turn history class (entries.Evicted e) was = (_, begun_turn history e.who.turn was.moment was.begun)
+class_turn history class (entries.Reclaimed e) was = (_, begun_turn history e.who.turn was.moment was.begun)
+class_turn history class (entries.Surveyed e) was = (_, begun_turn history e.who.turn was.moment was.begun)
+class_turn history class (entries.Refused e) was = (_, begun_turn history e.who.turn was.moment was.begun)
+class_turn history class (entries.Limited e) was =
+    let limits = limits_of class e.chunks in
+    let turns = turns_of was.before in (
+      limits,
+      subst (λ (n : ℕ). slice_get (turns_of history) n ≡ Some limits) was.turn_is
+          (ap (λ (l : List CallEvent). slice_get l (length turns)) (ap turns_of was.split ∙ turns_of-append was.before (limits ∷ was.behind)) ∙ get_next turns (turns_of was.behind) limits),
+    )
 
 -- where no call of a caller broke off, each event that names it has its call
 pub whole_turns : (config : Config) (caller : ℕ) (histories : Histories) (calls : List Exchange) → AreItsCalls config caller histories calls None → AreInTurn caller calls → AreWholeTurns config caller histories
@@ -45,19 +60,30 @@ whole_turns config caller histories calls are own = record {
       let called = are.events.called number place event below found by in
       let begun = called.begun in
       let turn = (who_of event).turn in
-      let made = call_at config caller histories calls turn called.moment are begun in
-      record {
-        call = made.0;
-        stands = stand_at config nothing_seen histories calls turn made.0 are.stand made.1;
-        who_is = who_by (who_of event) caller by ∙ sym (own.each turn made.0 made.1);
-        moment_is = moment_of_call number place event begun.call begun.behind called.moment made.0.moment begun.handed
-            (ap moment_of made.2 ∙ moment_of_call_event made.0.call made.0.moment called.moment (sym (ap moment_of made.2) ∙ begun.handed)) called.own;
-      };
+      let made = call_at turn begun.call (begun_turn are.history turn called.moment begun) in (
+        has_call (who_of event) by made.0 made.1,
+        moment_of_call number place event begun.call begun.behind called.moment made.0.moment begun.handed
+            (ap moment_of made.2 ∙ moment_of_call_event made.0.call made.0.moment called.moment (sym (ap moment_of made.2) ∙ begun.handed)) called.own,
+      );
+  at_classes = λ class place event is found by.
+      let turn = class_turn are.history class event (are.events.called_in_classes class place event is found by) in
+      let made = call_at (maker_of event).turn turn.0 turn.1 in
+      has_call (maker_of event) by made.0 made.1;
 }
+  where
+    call_at : (turn : ℕ) (event : CallEvent) → slice_get (turns_of are.history) turn ≡ Some event → (call : Exchange) × (slice_get calls turn ≡ Some call) × (event ≡ event_for call)
+    call_at turn event at = turns_for-at calls turn event (ap (λ (l : List CallEvent). slice_get l turn) (sym are.just) ∙ at)
+
+    has_call : (who : Who) → who.caller ≡ caller → (call : Exchange) → slice_get calls who.turn ≡ Some call → HasCall config histories who
+    has_call who by call at = record {
+      call = call;
+      stands = stand_at (MakesOnly config histories) config nothing_seen histories calls who.turn call are.stand at;
+      who_is = who_by who caller by ∙ sym (own.each who.turn call at);
+    }
 
 module _ (config : Config) (final : FinalView) (all : AreStripes final.board config final.stripes) (all_classes : AreClasses final.board config final.classes) where
   -- an event of a stripe that is left stands there
-  in_stripe : (number place : ℕ) (event : StripeEvent) → number < config.stripes → slice_get (stripe_histories final.stripes number) place ≡ Some event
+  pub in_stripe : (number place : ℕ) (event : StripeEvent) → number < config.stripes → slice_get (stripe_histories final.stripes number) place ≡ Some event
       → (s : StripeSide) × (slice_get final.stripes number ≡ Some s) × (slice_get s.stripe.history place ≡ Some event)
   in_stripe number place event below found =
       let s = get_some final.stripes number (omega (arith, below, all.many)) in
@@ -65,7 +91,7 @@ module _ (config : Config) (final : FinalView) (all : AreStripes final.board con
       (s.0, s.1, ap (λ (h : List StripeEvent). slice_get h place) (sym there) ∙ found)
 
   -- and so does one of a class
-  in_class : (class : ClassNo) (place : ℕ) (event : ClassEvent) → IsClass (setting_of config) class → slice_get (class_histories final.classes class) place ≡ Some event
+  pub in_class : (class : ClassNo) (place : ℕ) (event : ClassEvent) → IsClass (setting_of config) class → slice_get (class_histories final.classes class) place ≡ Some event
       → (c : ClassSide) × (slice_get final.classes (class.0 - 1) ≡ Some c) × (slice_get c.class.history place ≡ Some event)
   in_class class place event is found =
       let c = get_some final.classes (class.0 - 1) (omega (arith, is.0, is.1, all_classes.many)) in
@@ -105,25 +131,16 @@ module _ (config : Config) (final : FinalView) (all : AreStripes final.board con
         ));
   }
     where
-      no_event : (caller : ℕ) → (are : AreItsCalls config caller (histories_left final) [] None) → (turn moment : ℕ) → IsBegun are.history turn moment → ⊥
-      no_event caller are turn moment begun = let made = call_at config caller (histories_left final) [] turn moment are begun in absurd (cc made.1)
+      no_turn : (caller : ℕ) → (are : AreItsCalls config caller (histories_left final) [] None) → (turn : ℕ) (call : CallEvent) → slice_get (turns_of are.history) turn ≡ Some call → ⊥
+      no_turn caller are turn call at =
+          let none : slice_get [] turn ≡ Some call = ap (λ (l : List CallEvent). slice_get l turn) (sym are.just) ∙ at in
+          absurd (cc none)
 
-      no_limit : (caller : ℕ) → (are : AreItsCalls config caller (histories_left final) [] None) → (class : ClassNo) (e : Limited) → IsLimitCalled are.history class e → ⊥
-      no_limit caller are class e called =
-          let limits = limits_of class e.chunks in
-          let there = ap turns_of called.split ∙ turns_of-append called.before (limits ∷ called.behind) in
-          let many = ap (λ (l : List CallEvent). length l) (sym are.just ∙ there) in
-          absurd (omega (arith, many, length-append (turns_of called.before) (limits ∷ turns_of called.behind)))
+      no_event : (caller : ℕ) → (are : AreItsCalls config caller (histories_left final) [] None) → (turn moment : ℕ) → IsBegun are.history turn moment → ⊥
+      no_event caller are turn moment begun = no_turn caller are turn begun.call (begun_turn are.history turn moment begun)
 
       no_class_event : (caller : ℕ) → (are : AreItsCalls config caller (histories_left final) [] None) → (class : ClassNo) (event : ClassEvent) → WasCalled are.history class event → ⊥
-      no_class_event caller are class (entries.Linked e) was = no_event caller are _ _ was.begun
-      no_class_event caller are class (entries.Unlinked e) was = no_event caller are _ _ was.begun
-      no_class_event caller are class (entries.Shifted e) was = no_event caller are _ _ was.begun
-      no_class_event caller are class (entries.Evicted e) was = no_event caller are _ _ was.begun
-      no_class_event caller are class (entries.Reclaimed e) was = no_event caller are _ _ was.begun
-      no_class_event caller are class (entries.Surveyed e) was = no_event caller are _ _ was.begun
-      no_class_event caller are class (entries.Refused e) was = no_event caller are _ _ was.begun
-      no_class_event caller are class (entries.Limited e) was = no_limit caller are class e was
+      no_class_event caller are class event was = let turn = class_turn are.history class event was in no_turn caller are (maker_of event).turn turn.0 turn.1
 
       below_both : (n : ℕ) → n < scripts + 2 → (n ≡ scripts → ⊥) → (n ≡ suc scripts → ⊥) → n < scripts
       below_both n few one two = elim (cases_lt n scripts) [

@@ -1,4 +1,5 @@
 pub mod StandingCallLemmas
+pub mod EnteredCallLemmas
 pub mod SeenByCallLemmas
 pub mod SharedCallLemmas
 pub mod CalledEventLemmas

@@ -1,12 +1,13 @@
 -- What a run leaves: the closed store, and what the caller's pass has seen of it.
-use Rattle.std.proofs.Common.{◌≡◌, ◌<◌, ◌≤◌, ◌+◌, ◌-◌, ℕ, suc, List, Option, length, sym, ap, ◌∙◌, subst, arith, inl, inr}
-use Rattle.std.proofs.lemmas.Bool.{cases_lt}
+use Rattle.std.proofs.Common.{◌≡◌, ◌<◌, ◌≤◌, ◌+◌, ◌-◌, ℕ, suc, List, Option, Some, length, option_map, slice_get, sym, ap, ◌∙◌, subst, arith, inl, inr}
+use Rattle.std.proofs.lemmas.{Bool.cases_lt, Option.slice_get-map}
 use mathlib.Core.List.{IsPrefix}
-use Rattle.mc_item.specs.declared.{answer.Site.Site, config.Config.Config, item.ClassNo.ClassNo}
+use Rattle.mc_item.specs.declared.{answer.Site.Site, class_event.ClassEvent.ClassEvent, config.Config.Config, event.Event.Event, event.Event.TheVariants.Class}
+use Rattle.mc_item.specs.declared.{event.Event.TheVariants.Stripe, item.ClassNo.ClassNo, item.Who.Who, stripe_event.StripeEvent.StripeEvent}
 use Rattle.mc_item.specs.declared.stripe_event.StripeEvent.TheVariants as events
-use Rattle.mc_board.specs.Histories.{list_at}
+use Rattle.mc_board.specs.{Accounts.IsEntered, Accounts.maker_in, Histories.list_at}
 use Rattle.mc_board.specs.declared.rule.Sight.{Sight}
-use Rattle.mc_board.proofs.PrefixLemmas.{prefix_length}
+use Rattle.mc_board.proofs.{AccountLemmas.get_longer, PrefixLemmas.prefix_length}
 use Rattle.mc_evidence.specs.{Setting.IsClass, Sound.IsSoundStore}
 use Rattle.mc_item.specs.Stripe.{IsLegal}
 use Rattle.mc_script.specs.Exchanges.{Begun, Exchange}
@@ -14,10 +15,10 @@ use Rattle.mc_store.specs.Finals.{AreClasses, AreExactlyEntries, AreStripes, Fin
 use Rattle.mc_store.specs.{Locked.class_lock, Locked.setting_of, Passes.PassView, Serving.HasSeenShort, Sides.ClassSide, Sides.StripeSide, Sides.class_told}
 use Rattle.mc_store.specs.{Sides.stripe_told}
 use Rattle.mc_store.proofs.{NumberOrderLemmas.get_some, SyncedStepLemmas.map_length}
-use Rattle.mc_driver.specs.{Called.AreCalledBy, Called.AreItsCalls, Called.IsCompared, Caller.AreNoted, Caller.histories_seen, Caller.places_in, Run.HasFull, Run.IsStore}
-use Rattle.mc_driver.specs.{Run.histories_left, Stand.Grow, Stand.calls_at, Stand.nothing_seen}
+use Rattle.mc_driver.specs.{Called.AreCalledBy, Called.AreItsCalls, Called.IsCompared, Caller.AreNoted, Caller.EntersOnly, Caller.histories_seen, Caller.places_in, Run.HasFull, Run.IsStore}
+use Rattle.mc_driver.specs.{Run.histories_left, Stand.Grow, Stand.MakesOnly, Stand.calls_at, Stand.nothing_seen}
 use Rattle.mc_driver.proofs.{NotedPlaceLemmas.at_later, NotedPlaceLemmas.called_place, NotedPlaceLemmas.class_begins, NotedPlaceLemmas.stripe_begins, OnlyCallsLemmas.only_these}
-use Rattle.mc_driver.proofs.{LeftEventLemmas.called_by, StandingCallLemmas.stand_later}
+use Rattle.mc_driver.proofs.{EnteredCallLemmas.some_at, LeftEventLemmas.called_by, LeftEventLemmas.in_class, LeftEventLemmas.in_stripe, StandingCallLemmas.stand_by, StandingCallLemmas.stand_later}
 
 -- a site by its parts
 site_is : (s : Site) (stripe stripes : ℕ) (sizes : List ℕ) → s.stripe ≡ stripe → s.stripes ≡ stripes → s.sizes ≡ sizes → s ≡ record { stripe = stripe; stripes = stripes; sizes = sizes }
@@ -99,10 +100,42 @@ module _ (config : Config) (final : FinalView) (all : AreStripes final.board con
           inr (record { number = class; first = first; last = last; full = omega (arith, short.short, long) })
     ]
 
+    -- and what its account has of a call is all that the store has of it
+    makes_only : (who : Who) → who.caller ≡ pass.caller → (Suits : (lock place : ℕ) → Event → Type 0) → EntersOnly pass who Suits → MakesOnly config (histories_left final) who Suits
+    makes_only who of Suits has = record {
+      stripes = λ number place event below found by.
+          let s = in_stripe config final all all_classes number place event below found in
+          let under = all.each number s.0 s.1 in
+          let lock : s.0.lock ≡ number = under.kept.lock_is ∙ under.number_is in
+          let entered = compared.account.stripes number s.0 place event s.1 s.2 (ap (λ (w : Who). w.caller) by ∙ of) in
+          suited number place (stripe_told (stripe_histories final.stripes number)) (Stripe event) (stripe_seen number below)
+          (slice_get-map (λ (e : StripeEvent). Stripe e) (stripe_histories final.stripes number) place ∙ ap (option_map (λ (e : StripeEvent). Stripe e)) found) (ap (λ (w : Who). Some w) by)
+          (subst (λ (k : ℕ). IsEntered pass.made who.turn k place) lock (subst (λ (w : Who). IsEntered pass.made w.turn s.0.lock place) by entered));
+      classes = λ class place event is found by.
+          let c = in_class config final all all_classes class place event is found in
+          let under = all_classes.each (class.0 - 1) c.0 c.1 in
+          let same : c.0.class.number.0 ≡ class.0 = under.number_is ∙ omega (arith, is.0) in
+          let lock : c.0.lock ≡ class_lock config class = under.kept.held.lock_is ∙ ap (λ (n : ℕ). config.stripes + (n - 1)) same in
+          let entered = compared.account.classes (class.0 - 1) c.0 place event c.1 c.2 (ap (λ (w : Who). w.caller) by ∙ of) in
+          suited (class_lock config class) place (class_told (class_histories final.classes class)) (Class event) (class_seen class is)
+          (slice_get-map (λ (e : ClassEvent). Class e) (class_histories final.classes class) place ∙ ap (option_map (λ (e : ClassEvent). Class e)) found) (ap (λ (w : Who). Some w) by)
+          (subst (λ (k : ℕ). IsEntered pass.made who.turn k place) lock (subst (λ (w : Who). IsEntered pass.made w.turn c.0.lock place) by entered));
+    }
+      where
+        suited : (lock place : ℕ) (all : List Event) (event : Event) → IsPrefix (list_at sight.seen lock) all → slice_get all place ≡ Some event → maker_in event ≡ Some who
+            → IsEntered pass.made who.turn lock place → Suits lock place event
+        suited lock place all event begins there by entered =
+            let Fits = λ (e : Event). maker_in e ≡ Some who → Suits lock place e in
+            let e = some_at Fits (slice_get (list_at sight.seen lock) place) (has.each lock place entered) in
+            let same : Some e.0 ≡ Some event = sym (get_longer (list_at sight.seen lock) all place e.0 begins e.1) ∙ there in
+            subst Fits (cc same) e.2 by
+
     -- the calls that the pass has noted stand in it, and of the caller there are only these
     pub left_calls : (calls : List Exchange) (begun : Option Begun) → AreNoted config pass calls begun → AreItsCalls config pass.caller (histories_left final) calls begun
     left_calls calls begun noted = record {
-      stand = stand_later config nothing_seen (histories_seen config sight) (histories_left final) calls left_grows noted.stand;
+      stand = stand_by (EntersOnly pass) (MakesOnly config (histories_left final)) config nothing_seen (histories_left final) calls
+          (λ k call at Suits. makes_only call.who (ap (λ (w : Who). w.caller) (noted.own.each k call at)) Suits)
+          (stand_later (EntersOnly pass) config nothing_seen (histories_seen config sight) (histories_left final) calls left_grows noted.stand);
       only = record {
         at = λ number below.
             let at = at_later _ (stripe_histories final.stripes number) pass.caller _ _ (left_grows.stripes number below) (noted.at number below) in

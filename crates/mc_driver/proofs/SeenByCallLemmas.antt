@@ -1,27 +1,28 @@
 -- By a call its caller's pass comes from what it had seen to what it has seen then, and the call stands between.
-use Rattle.std.proofs.Common.{◌≡◌, ◌<◌, ℕ, List, [], ◌∷◌, ◌++◌, sym, ap, ◌∙◌, append-nil, subst, arith, inl, inr}
+use Rattle.std.proofs.Common.{◌≡◌, ◌<◌, ℕ, List, [], ◌∷◌, ◌++◌, length, slice_get, refl, sym, ap, ◌∙◌, append-nil, append_assoc, length-append, subst, arith, inl, inr, ⊎_elim}
 use mathlib.Core.List.{IsPrefix}
 use Rattle.std.proofs.Math.Nat.{mod-lt}
 use Rattle.mc_item.specs.{Command.key_of, Measure.fnv1a, Counts.no_counts, Stripe.cache_of}
 use Rattle.mc_item.specs.declared.{answer.Site.Site, class_event.ClassEvent.ClassEvent, command.Command.Command}
 use Rattle.mc_item.specs.declared.{config.Config.Config, counts.Moves.Moves, event.Event.Event, item.ClassNo.ClassNo, item.Who.Who, reply.Reply.Reply}
-use Rattle.mc_item.specs.declared.{stripe_event.StripeEvent.StripeEvent, counts.Histogram.Histogram, item.Link.Link}
+use Rattle.mc_item.specs.declared.{answer.Need.Need, stripe_event.StripeEvent.StripeEvent, counts.Histogram.Histogram, item.Link.Link}
 use Rattle.mc_item.specs.declared.event.Event.TheVariants as board_events
-use Rattle.mc_board.specs.Histories.{Grows, list_at}
+use Rattle.mc_board.specs.{Accounts.maker_of, Accounts.who_of, Histories.Grows, Histories.list_at}
 use Rattle.mc_board.specs.declared.rule.Sight.{Sight}
-use Rattle.mc_evidence.specs.{Seen.class_events, Seen.stripe_events, Refusals.WasTried, Setting.IsClass, Setting.site_in, Locks.ClassKeeps, Locks.StripeKeeps}
+use Rattle.mc_evidence.specs.{Seen.class_events, Seen.classes_seen, Seen.stripe_events, Refusals.WasTried, Setting.IsClass, Setting.site_in, Locks.ClassKeeps, Locks.StripeKeeps}
 use Rattle.mc_evidence.proofs.SeenLemmas.{class_events-append, class_events-map, classes_grow, stripe_events-map, stripes_grow}
 use Rattle.mc_proto.specs.Answers.{Counted, Limited, Moved, Replied}
 use Rattle.mc_pull.specs.{Juggle.IsJuggle, Rounds.Rounds, Rounds.rounds}
 use Rattle.mc_script.specs.Exchanges.{Asks, Crawls, Juggles, Limits, exchange}
 use Rattle.mc_segment.specs.{ClassCalls.limited_event, ClassState.ClassView}
 use Rattle.mc_stripe.specs.{Plan.dead_link, Plan.visible_row, StripeState.Stripe, StripeState.stripe}
-use Rattle.mc_store.specs.{Commands.IsSearch, Commands.LeadsUp, Commands.burial}
-use Rattle.mc_store.specs.{Calls.IsJuggledBy, Calls.HasGained, Calls.IsRepliedBy, Locked.setting_of, Locked.class_lock, Sides.class_told, Crawls.AreLinksCounted}
+use Rattle.mc_store.specs.{Accounts.Enters, Accounts.IsOfCommand, Accounts.IsOfWalk, Accounts.Stretch, Commands.IsSearch, Commands.LeadsUp, Commands.burial, Searches.IsSearchFor}
+use Rattle.mc_store.specs.{Calls.IsJuggledBy, Calls.HasGained, Calls.IsRepliedBy, Locked.setting_of, Locked.class_lock, Sides.class_told, Sides.stripe_told, Crawls.AreLinksCounted}
 use Rattle.mc_store.specs.{Crawls.HasReclaims, Crawls.IsCrawledBy, Earned.IsLastResort, Passes.PassView, Passes.next_who}
 use Rattle.mc_store.proofs.{EarnedRefusalLemmas.opened_again, LockKeepsLemmas.site_of_number}
-use Rattle.mc_driver.specs.{Caller.histories_seen, Noted.answered_command, Noted.answered_event, Noted.stripe_with, Stand.Grow, Stand.StandsBetween, Stand.stripe_number}
-use Rattle.mc_driver.proofs.NotedPlaceLemmas.{class_begins, stripe_begins}
+use Rattle.mc_driver.specs.{Caller.EntersOnly, Caller.IsBefore, Caller.histories_seen, Noted.answered_command, Noted.answered_event, Noted.stripe_with, Searched.NotesSearchFor}
+use Rattle.mc_driver.specs.Stand.{Grow, StandsBetween, stripe_number}
+use Rattle.mc_driver.proofs.{EnteredCallLemmas.entered_only, EnteredCallLemmas.stands_within, NotedPlaceLemmas.class_begins, NotedPlaceLemmas.stripe_begins}
 
 -- what a pass has seen grows
 pub seen_grow : (config : Config) (old new : Sight) → Grows old new → Grow config (histories_seen config old) (histories_seen config new)
@@ -39,12 +40,36 @@ led_up_there config number who command moment s made site led = record {
   search = subst (λ (t : Site). IsSearch config who moment (visible_row (stripe t config.max_events config.keeps_events s.history 0) command moment).need led.walked) site led.search;
 }
 
+-- a search for a chunk that a pass has seen stands in what it has seen
+search_there : (config : Config) (need : Need) (who : Who) (moment : ℕ) (sight : Sight) (stretch : Stretch) → IsSearchFor config need who moment sight stretch
+    → NotesSearchFor config need (classes_seen config.stripes (list_at sight.seen)) who moment stretch
+search_there config need who moment sight stretch (inl none) = inl none
+search_there config need who moment sight stretch (inr some) =
+    let one = some.2 in
+    let history = one.searched ++ one.refusal in
+    let begins = classes_grow config.stripes (λ lock. class_told history) (λ lock. list_at sight.seen (class_lock config some.0)) (λ lock. one.seen) some.0 in
+    inr (
+      some.0,
+      some.1,
+      λ is. record {
+        before = one.before;
+        searched = one.searched;
+        once = one.once;
+        refusal = one.refusal;
+        refusal_is = one.refusal_is;
+        from_is = one.from_is;
+        until_is = one.until_is;
+        begins = subst (λ (h : List ClassEvent). IsPrefix h (class_events (list_at sight.seen (class_lock config some.0)))) (class_events-map history) begins;
+      },
+    )
+
 -- by a command that was replied to the pass came from what it had seen to what it has seen now
-pub replied_between : (config : Config) (before after : PassView) (command : Command) (moment : ℕ) (reply : Reply) → 0 < config.stripes → Grows before.sight after.sight
+pub replied_between : (config : Config) (before after : PassView) (command : Command) (moment : ℕ) (reply : Reply) → 0 < config.stripes → Grows before.sight after.sight → IsBefore before.turn before.made
     → IsRepliedBy config (stripe_number config.stripes command) before after command moment reply
-    → StandsBetween config (histories_seen config before.sight) (histories_seen config after.sight) (exchange before.caller before.turn (Asks command) moment (Replied reply))
-replied_between config before after command moment reply some grows by =
+    → StandsBetween (EntersOnly after) config (histories_seen config before.sight) (histories_seen config after.sight) (exchange before.caller before.turn (Asks command) moment (Replied reply))
+replied_between config before after command moment reply some grows earlier by =
     let answered = by.replied.answered in
+    let account = by.account in
     let who = next_who before in
     let number = stripe_number config.stripes command in
     let now : stripe_events (list_at after.sight.seen number) ≡ by.new.history = ap stripe_events by.grew.now ∙ stripe_events-map by.new.history in
@@ -52,33 +77,49 @@ replied_between config before after command moment reply some grows by =
     record {
       grew = seen_grow config before.sight after.sight grows;
       placed = mod-lt (fnv1a (key_of command)) some;
-      stands = record {
-        older = by.old.history;
-        made = answered.before;
-        room = answered.room;
-        behind = [];
-        past = stripe_begins (list_at before.sight.seen number) by.old.history by.grew.seen;
-        first = by.first;
-        led_up = led_up_there config number who command moment by.old answered.before site answered.led_up;
-        split = now ∙ (answered.history_is
-            ∙ ap (λ (r : Reply). (by.old.history ++ answered.before) ++ answered_event who command moment r answered.room ∷ []) by.replied.reply_is);
-        earned = λ class is.
-            subst (λ (r : Reply). WasTried (site_in (setting_of config) number) class ((histories_seen config after.sight).classes class) (answered_command who command moment r answered.room)) by.replied.reply_is
-            (subst (λ (t : Site). WasTried t class ((histories_seen config after.sight).classes class) (answered_command who command moment answered.reply answered.room)) site (by.replied.earned.tried class));
-        last = λ class place is room.
-            let at : by.old.site.stripe ≡ number = by.grew.number_is in
-            subst (λ (r : Reply). IsLastResort config (record { 0 = number }) class place ((histories_seen config after.sight).classes class) (answered_command who command moment r answered.room)) by.replied.reply_is
-            (subst (λ (n : ℕ). IsLastResort config (record { 0 = n }) class place ((histories_seen config after.sight).classes class)
-            (answered_command who command moment answered.reply answered.room)) at (by.replied.earned.last class place room));
-      };
+      stands = (
+        record {
+          older = by.old.history;
+          made = answered.before;
+          room = answered.room;
+          behind = [];
+          past = stripe_begins (list_at before.sight.seen number) by.old.history by.grew.seen;
+          first = by.first;
+          led_up = led_up_there config number who command moment by.old answered.before site answered.led_up;
+          split = now ∙ (answered.history_is
+              ∙ ap (λ (r : Reply). (by.old.history ++ answered.before) ++ answered_event who command moment r answered.room ∷ []) by.replied.reply_is);
+          earned = λ class is.
+              subst (λ (r : Reply). WasTried (site_in (setting_of config) number) class ((histories_seen config after.sight).classes class) (answered_command who command moment r answered.room)) by.replied.reply_is
+              (subst (λ (t : Site). WasTried t class ((histories_seen config after.sight).classes class) (answered_command who command moment answered.reply answered.room)) site (by.replied.earned.tried class));
+          last = λ class place is room.
+              let at : by.old.site.stripe ≡ number = by.grew.number_is in
+              subst (λ (r : Reply). IsLastResort config (record { 0 = number }) class place ((histories_seen config after.sight).classes class) (answered_command who command moment r answered.room)) by.replied.reply_is
+              (subst (λ (n : ℕ). IsLastResort config (record { 0 = n }) class place ((histories_seen config after.sight).classes class)
+              (answered_command who command moment answered.reply answered.room)) at (by.replied.earned.last class place room));
+          stretch = account.stretch;
+          search = subst (λ (t : Site). NotesSearchFor config (visible_row (stripe t config.max_events config.keeps_events by.old.history 0) command moment).need
+              (histories_seen config after.sight).classes who moment account.stretch) site
+              (search_there config (visible_row by.old command moment).need who moment after.sight account.stretch account.search);
+        },
+        entered_only before after _ _ earlier account.enters (λ lock place event at mine suits. (
+          subst (λ (t : Site). IsOfCommand config (stripe t config.max_events config.keeps_events by.old.history 0) command moment account.stretch lock place event) site suits,
+          λ own.
+              let seen : list_at after.sight.seen lock ≡ stripe_told by.new.history = ap (list_at after.sight.seen) own ∙ by.grew.now in
+              let within = stands_within board_events.Stripe who_of who by.old.history (answered.before ++ answered_event who command moment answered.reply answered.room ∷ []) by.new.history place event (λ e. refl)
+              by.first.each (answered.history_is ∙ append_assoc by.old.history answered.before (answered_event who command moment answered.reply answered.room ∷ []))
+              (ap (λ (l : List Event). slice_get l place) (sym seen) ∙ at) mine in
+              let long = ap length answered.history_is ∙ length-append (by.old.history ++ answered.before) (answered_event who command moment answered.reply answered.room ∷ []) in
+              (within.0, subst (λ (n : ℕ). place < n) long within.1),
+        )),
+      );
       evidence = subst (λ (h : List StripeEvent). StripeKeeps (setting_of config) number h (histories_seen config after.sight).classes) (sym now) by.grew.sound;
     }
 
 -- and by juggling
 pub juggled_between : (config : Config) (class : ClassNo) (before after : PassView) (moment : ℕ) (moves : Moves) → IsClass (setting_of config) class → Grows before.sight after.sight
-    → IsJuggledBy config class before after moment moves
-    → StandsBetween config (histories_seen config before.sight) (histories_seen config after.sight) (exchange before.caller before.turn (Juggles class) moment (Moved moves))
-juggled_between config class before after moment moves is grows by =
+    → IsBefore before.turn before.made → Enters (IsOfWalk config class) before.turn after.sight before.made after.made → IsJuggledBy config class before after moment moves
+    → StandsBetween (EntersOnly after) config (histories_seen config before.sight) (histories_seen config after.sight) (exchange before.caller before.turn (Juggles class) moment (Moved moves))
+juggled_between config class before after moment moves is grows earlier account by =
     let c = by.old in
     let upkept = by.upkept in
     let advanced = c.history ++ upkept.advances in
@@ -87,20 +128,30 @@ juggled_between config class before after moment moves is grows by =
     record {
       grew = seen_grow config before.sight after.sight grows;
       placed = is;
-      stands = record {
-        before = c.history;
-        hits = upkept.advanced.hits;
-        few = upkept.advanced.few;
-        advances = upkept.advances;
-        advanced = upkept.advanced.advanced;
-        own = upkept.own;
-        behind = [];
-        past = class_begins (list_at before.sight.seen (class_lock config class)) c.history by.grew.seen;
-        split = now ∙ (upkept.history_is ∙ sym (append-nil (advanced ++ upkept.own)));
-        answers = upkept.answers;
-        juggled = subst (λ (r : Rounds). IsJuggle r advanced upkept.answers (advanced ++ upkept.own) moves)
-            (ap (λ (v : ClassView). rounds v (next_who before) moment config) same) upkept.juggle;
-      };
+      stands = (
+        record {
+          before = c.history;
+          hits = upkept.advanced.hits;
+          few = upkept.advanced.few;
+          advances = upkept.advances;
+          advanced = upkept.advanced.advanced;
+          own = upkept.own;
+          behind = [];
+          past = class_begins (list_at before.sight.seen (class_lock config class)) c.history by.grew.seen;
+          split = now ∙ (upkept.history_is ∙ sym (append-nil (advanced ++ upkept.own)));
+          answers = upkept.answers;
+          juggled = subst (λ (r : Rounds). IsJuggle r advanced upkept.answers (advanced ++ upkept.own) moves)
+              (ap (λ (v : ClassView). rounds v (next_who before) moment config) same) upkept.juggle;
+        },
+        entered_only before after _ _ earlier account (λ lock place event at mine suits. ⊎_elim
+            (λ own.
+            let seen : list_at after.sight.seen lock ≡ class_told by.history_new = ap (list_at after.sight.seen) own ∙ by.grew.now in
+            let within = stands_within board_events.Class maker_of (next_who before) c.history (upkept.advances ++ upkept.own) by.history_new place event (λ e. refl)
+            by.first.each (upkept.history_is ∙ append_assoc c.history upkept.advances upkept.own) (ap (λ (l : List Event). slice_get l place) (sym seen) ∙ at) mine in
+            inl (own, (within.0, subst (λ (h : List ClassEvent). place < length h) upkept.history_is within.1)))
+            (λ stripe. inr stripe)
+            suits),
+      );
       evidence = subst (λ (h : List ClassEvent). ClassKeeps (setting_of config) class h (histories_seen config after.sight).stripes) (sym now) by.grew.sound;
     }
 
@@ -114,9 +165,9 @@ reclaims_told who moment many (board_events.Class e ∷ es) (inr t) = inr (t.0, 
 
 -- and by a crawl
 pub crawled_between : (config : Config) (class : ClassNo) (before after : PassView) (moment : ℕ) (histogram : Histogram) → IsClass (setting_of config) class → Grows before.sight after.sight
-    → IsCrawledBy config class before after moment histogram
-    → StandsBetween config (histories_seen config before.sight) (histories_seen config after.sight) (exchange before.caller before.turn (Crawls class) moment (Counted histogram))
-crawled_between config class before after moment histogram is grows by =
+    → IsBefore before.turn before.made → IsCrawledBy config class before after moment histogram
+    → StandsBetween (EntersOnly after) config (histories_seen config before.sight) (histories_seen config after.sight) (exchange before.caller before.turn (Crawls class) moment (Counted histogram))
+crawled_between config class before after moment histogram is grows earlier by =
     let who = next_who before in
     let snapshot = by.snapshot in
     let shown = by.reclaims in
@@ -129,42 +180,54 @@ crawled_between config class before after moment histogram is grows by =
     record {
       grew = seen_grow config before.sight after.sight grows;
       placed = is;
-      stands = record {
-        at = snapshot.history;
-        behind = begins.0;
-        past = class_begins old snapshot.history snapshot.begins;
-        split = sym (ap (λ (h : List ClassEvent). h ++ begins.0) (sym (class_events-map snapshot.history)) ∙ begins.1);
-        entries = snapshot.count_is;
-        end = whole.history;
-        rest = [];
-        ends = now ∙ sym (append-nil whole.history);
-        stretches = by.stretches;
-        counted = subst (λ (ls : List Link). AreLinksCounted config class (class_told snapshot.history) (class_told whole.history) who moment ls by.stretches no_counts histogram) snapshot.links_are
-            (subst (λ (es : List Event). AreLinksCounted config class (class_told snapshot.history) es who moment snapshot.links by.stretches no_counts histogram) whole.now by.counted);
-        balanced = by.balanced;
-        since = class_events shown.events;
-        since_is = ap class_events (sym shown.events_are) ∙ class_events-append old shown.events;
-        reclaims = reclaims_told who moment histogram.reclaimed shown.events (subst (λ (k : ℕ). HasReclaims who moment k shown.events) (sym many) shown.reclaims);
-      };
+      stands = (
+        record {
+          at = snapshot.history;
+          behind = begins.0;
+          past = class_begins old snapshot.history snapshot.begins;
+          split = sym (ap (λ (h : List ClassEvent). h ++ begins.0) (sym (class_events-map snapshot.history)) ∙ begins.1);
+          entries = snapshot.count_is;
+          end = whole.history;
+          rest = [];
+          ends = now ∙ sym (append-nil whole.history);
+          stretches = by.stretches;
+          counted = subst (λ (ls : List Link). AreLinksCounted config class (class_told snapshot.history) (class_told whole.history) who moment ls by.stretches no_counts histogram) snapshot.links_are
+              (subst (λ (es : List Event). AreLinksCounted config class (class_told snapshot.history) es who moment snapshot.links by.stretches no_counts histogram) whole.now by.counted);
+          balanced = by.balanced;
+          since = class_events shown.events;
+          since_is = ap class_events (sym shown.events_are) ∙ class_events-append old shown.events;
+          reclaims = reclaims_told who moment histogram.reclaimed shown.events (subst (λ (k : ℕ). HasReclaims who moment k shown.events) (sym many) shown.reclaims);
+        },
+        entered_only before after _ _ earlier by.account (λ lock place event at mine suits. suits),
+      );
       evidence = subst (λ (h : List ClassEvent). ClassKeeps (setting_of config) class h (histories_seen config after.sight).stripes) (sym now) whole.sound;
     }
 
 -- and by a new limit
-pub limited_between : (config : Config) (class : ClassNo) (before after : Sight) (who : Who) (chunks moment : ℕ) → IsClass (setting_of config) class → Grows before after
-    → HasGained config class before after who (limited_event who chunks ∷ [])
-    → StandsBetween config (histories_seen config before) (histories_seen config after) (exchange who.caller who.turn (Limits class chunks) moment Limited)
-limited_between config class before after who chunks moment is grows by =
-    let longer : List ClassEvent = by.old.history ++ limited_event who chunks ∷ [] in
-    let now : (histories_seen config after).classes class ≡ longer = ap class_events by.grew.now ∙ class_events-map longer in
+pub limited_between : (config : Config) (class : ClassNo) (before after : PassView) (chunks moment : ℕ) → IsClass (setting_of config) class → Grows before.sight after.sight → IsBefore before.turn before.made
+    → Enters (λ lock place event. lock ≡ class_lock config class) before.turn after.sight before.made after.made
+    → HasGained config class before.sight after.sight (next_who before) (limited_event (next_who before) chunks ∷ [])
+    → StandsBetween (EntersOnly after) config (histories_seen config before.sight) (histories_seen config after.sight) (exchange before.caller before.turn (Limits class chunks) moment Limited)
+limited_between config class before after chunks moment is grows earlier account by =
+    let limited = limited_event (next_who before) chunks ∷ [] in
+    let longer : List ClassEvent = by.old.history ++ limited in
+    let now : (histories_seen config after.sight).classes class ≡ longer = ap class_events by.grew.now ∙ class_events-map longer in
     record {
-      grew = seen_grow config before after grows;
+      grew = seen_grow config before.sight after.sight grows;
       placed = is;
-      stands = record {
-        before = by.old.history;
-        behind = [];
-        past = class_begins (list_at before.seen (class_lock config class)) by.old.history by.grew.seen;
-        first = by.first;
-        split = now;
-      };
-      evidence = subst (λ (h : List ClassEvent). ClassKeeps (setting_of config) class h (histories_seen config after).stripes) (sym now) by.grew.sound;
+      stands = (
+        record {
+          before = by.old.history;
+          behind = [];
+          past = class_begins (list_at before.sight.seen (class_lock config class)) by.old.history by.grew.seen;
+          first = by.first;
+          split = now;
+        },
+        entered_only before after _ _ earlier account (λ lock place event at mine own.
+            let seen : list_at after.sight.seen lock ≡ class_told longer = ap (list_at after.sight.seen) own ∙ by.grew.now in
+            let within = stands_within board_events.Class maker_of (next_who before) by.old.history limited longer place event (λ e. refl) by.first.each refl
+            (ap (λ (l : List Event). slice_get l place) (sym seen) ∙ at) mine in
+            (own, omega (arith, within.0, within.1, length-append by.old.history limited))),
+      );
+      evidence = subst (λ (h : List ClassEvent). ClassKeeps (setting_of config) class h (histories_seen config after.sight).stripes) (sym now) by.grew.sound;
     }

@@ -1,10 +1,10 @@
 -- What a call on a store that threads share leaves of what its pass knows.
-use Rattle.std.proofs.Common.{◌≡◌, ◌+◌, ◌<◌, ◌≤◌, ℕ, List, [], ◌∷◌, ◌++◌, Result, Ok, Err, refl, sym, ap, ◌∙◌, append-nil, subst, arith, length, length-append, ◌⊎◌, inl, inr}
-use Rattle.std.specs.Prelude.{IfOk, None, OnErr, Some, cond, nat_eq, true, IsErrOf, OnOk}
+use Rattle.std.proofs.Common.{◌≡◌, ◌+◌, ◌<◌, ◌≤◌, ℕ, List, [], ◌∷◌, ◌++◌, Result, Ok, Err, refl, sym, ap, ◌∙◌, append-nil, subst, arith, length, length-append, ◌⊎◌, inl, inr, ⊎_elim}
+use Rattle.std.specs.Prelude.{IfOk, None, OnErr, Some, cond, nat_eq, true, IsErrOf, OnOk, IfErr}
 use Rattle.std.specs.List.{slice_get}
-use Rattle.std.proofs.lemmas.List.Elements.{filter-append}
+use Rattle.std.proofs.lemmas.{List.Elements.filter-append, Option.slice_get_within}
 use Rattle.mc_item.specs.declared.{call_event.CallEvent.CallEvent, command.Command.Command, config.Config.Config, counts.Moves.Moves, fault.Fault.Fault}
-use Rattle.mc_item.specs.declared.{item.ClassNo.ClassNo, reply.Reply.Reply, stripe_event.Did.Did, stripe_event.StripeEvent.StripeEvent}
+use Rattle.mc_item.specs.declared.{item.ClassNo.ClassNo, item.Who.Who, reply.Reply.Reply, stripe_event.Did.Did, stripe_event.StripeEvent.StripeEvent}
 use Rattle.mc_item.specs.declared.{counts.Histogram.Histogram}
 use Rattle.mc_item.specs.declared.fault.Fault.TheVariants.{HistoryFull}
 use Rattle.mc_item.specs.declared.stripe_event.StripeEvent.TheVariants as events
@@ -17,14 +17,16 @@ use Rattle.mc_proto.specs.Answers.{Answer, Counted, Limited, Moved, Replied}
 use Rattle.mc_script.specs.{Calls.AddsCalls, Calls.AddsUp, Calls.BreaksOff, Calls.GoesOn, Calls.MakesCalls, Exchanges.Asks, Exchanges.Begun, Exchanges.Crawls, Exchanges.Exchange}
 use Rattle.mc_script.specs.Exchanges.{IsOfKind, Juggles, Limits, ScriptCall, exchange}
 use Rattle.mc_store.specs.Callers.{answered_at, asked_for, crawling_of, juggling_of, limits_of, turns_of}
-use Rattle.mc_store.specs.{Calls.IsJuggledBy, Calls.HasGained, Calls.IsRepliedBy, Locked.setting_of, Passes.PassView, Passes.next_who, Crawls.IsCrawledBy}
+use Rattle.mc_store.specs.{Accounts.Enters, Accounts.IsOfWalk, Calls.IsJuggledBy, Calls.HasGained, Calls.IsRepliedBy, Crawls.IsCrawledBy, Crawls.IsCrawledTill, Locked.class_lock}
+use Rattle.mc_store.specs.{Locked.setting_of, Passes.PassView, Passes.next_who}
 use Rattle.mc_driver.specs.{Called.AreInTurn, Called.call_event_of}
-use Rattle.mc_driver.specs.Caller.{AreAt, AreNoted, AreRising, IsAt, MayCall, histories_seen, places_in, view_of}
-use Rattle.mc_driver.specs.Stand.{StandsBetween, calls_at, is_command_at, nothing_seen, stripe_number}
+use Rattle.mc_driver.specs.Caller.{AreAt, AreNoted, AreRising, EntersOnly, IsAt, IsBefore, MayCall, histories_seen, places_in, view_of}
+use Rattle.mc_driver.specs.Stand.{Stand, StandsBetween, calls_at, is_command_at, nothing_seen, stripe_number}
 use Rattle.mc_driver.proofs.NotedPlaceLemmas.{at_later, at_push_if, get_next, places_in-push, rising_push_if, stripe_begins, places_in-call}
 use Rattle.mc_driver.proofs.SeenByCallLemmas.{crawled_between, juggled_between, limited_between, replied_between, seen_grow}
-use Rattle.mc_driver.proofs.CalledEventLemmas.{call_event_of-turn, event_for, in_turn_more, may_again, replied_turns, turns_begun, turns_more, turns_of-call}
-use Rattle.mc_driver.proofs.{OnlyCallsLemmas.is_same, StandingCallLemmas.stand_later, StandingCallLemmas.stand_more}
+use Rattle.mc_driver.proofs.EnteredCallLemmas.{Gains, before_more, entered_still, gains, gains_none}
+use Rattle.mc_driver.proofs.CalledEventLemmas.{Fails, call_event_of-turn, event_for, turns_for-length, in_turn_more, may_again, replied_turns, turns_begun, turns_more, turns_of-call}
+use Rattle.mc_driver.proofs.{OnlyCallsLemmas.is_same, StandingCallLemmas.stand_by, StandingCallLemmas.stand_later, StandingCallLemmas.stand_more}
 
 -- where a reply was noted, and what stands there
 module _ (config : Config) (old new : PassView) (command : Command) (moment : ℕ) (reply : Reply)
@@ -99,23 +101,44 @@ module _ (config : Config) (old new : PassView) (command : Command) (moment : �
 abbrev IsCut : PassView → PassView → CallEvent → Type 0
 IsCut old new made = (new ≡ old) ⊎ (new.calls ≡ old.calls ++ made ∷ [])
 
-module _ (config : Config) (old new : PassView) (same : new.caller ≡ old.caller) (grows : Grows old.sight new.sight) where
+module _ (config : Config) (old new : PassView) (same : new.caller ≡ old.caller) (grows : Grows old.sight new.sight) (may : MayCall config old) (gained : Gains old.turn old.made new.made) where
+  earlier : (calls : List Exchange) → AreNoted config old calls None → IsBefore old.turn old.made
+  earlier calls noted = subst (λ (n : ℕ). IsBefore n old.made) may.turns noted.before
+
+  -- with the next turn, all of the account is of a turn before the one to come
+  before_next : (calls : List Exchange) → AreNoted config old calls None → (turn : CallEvent) → turns_of new.calls ≡ turns_of old.calls ++ turn ∷ [] → IsBefore (length (turns_of new.calls)) new.made
+  before_next calls noted turn more =
+      let count : old.turn + 1 ≡ length (turns_of new.calls) = omega (arith, may.turns, ap length more, length-append (turns_of old.calls) (turn ∷ [])) in
+      subst (λ (n : ℕ). IsBefore n new.made) count (before_more old.turn old.made new.made (earlier calls noted) gained)
+
+  -- the calls so far stand as they did: their events are known by the account, which has no other of them
+  stand_still : (calls : List Exchange) → AreNoted config old calls None → Stand (EntersOnly new) config nothing_seen (histories_seen config old.sight) calls
+  stand_still calls noted = stand_by (EntersOnly old) (EntersOnly new) config nothing_seen (histories_seen config old.sight) calls
+      (λ k call at Suits.
+      let within : k < length calls = slice_get_within calls k call at in
+      let turn : call.who.turn ≡ k = ap (λ (w : Who). w.turn) (noted.own.each k call at) in
+      let below : call.who.turn < old.turn = omega (arith, turn, within, may.turns, ap length noted.turns, turns_for-length calls) in
+      entered_still old new gained call.who Suits below grows)
+      noted.stand
+
   -- a reply is noted
-  replied_adds : (command : Command) (moment : ℕ) (reply : Reply) → MayCall config old
+  replied_adds : (command : Command) (moment : ℕ) (reply : Reply)
       → IsRepliedBy config (stripe_number config.stripes command) old new command moment reply
       → AddsCalls (AreNoted config old) (AreNoted config new) (exchange old.caller old.turn (Asks command) moment (Replied reply) ∷ [])
-  replied_adds command moment reply may by = record {
+  replied_adds command moment reply by = record {
     at = λ calls noted.
         let call = exchange old.caller old.turn (Asks command) moment (Replied reply) in
+        let more = replied_turns old.calls new.calls (asked_for command moment) by.old.site.stripe by.replied.place by.replied.noted in
         record {
-          stand = stand_more config nothing_seen (histories_seen config old.sight) (histories_seen config new.sight) calls call noted.stand
-              (replied_between config old new command moment reply may.some grows by);
+          stand = stand_more (EntersOnly new) config nothing_seen (histories_seen config old.sight) (histories_seen config new.sight) calls call (stand_still calls noted)
+              (replied_between config old new command moment reply may.some grows (earlier calls noted) by);
           at = λ n below.
               subst (λ (k : ℕ). AreAt (stripe_events (list_at new.sight.seen n)) k (places_in n new.calls) (calls_at config.stripes n (calls ++ call ∷ []))) (sym same)
               (noted_at config old new command moment reply by calls noted grows n below);
           rising = λ n below. noted_rising config old new command moment reply by calls noted grows n below;
           own = subst (λ (k : ℕ). AreInTurn k (calls ++ call ∷ [])) (sym same) (in_turn_more old calls call noted.own refl may.turns noted.turns);
-          turns = turns_more old.calls new.calls calls call (replied_turns old.calls new.calls (asked_for command moment) by.old.site.stripe by.replied.place by.replied.noted) noted.turns;
+          turns = turns_more old.calls new.calls calls call more noted.turns;
+          before = before_next calls noted (asked_for command moment) more;
         };
   }
 
@@ -135,12 +158,15 @@ module _ (config : Config) (old new : PassView) (same : new.caller ≡ old.calle
     kept_rising = subst (AreRising 0) (sym kept_places) (noted.rising n below)
 
   -- a call on a class is noted
-  class_adds : (call : Exchange) → MayCall config old → call.who ≡ next_who old → new.calls ≡ old.calls ++ event_for call ∷ [] → ((n : ℕ) → calls_at config.stripes n (call ∷ []) ≡ [])
-      → StandsBetween config (histories_seen config old.sight) (histories_seen config new.sight) call → AddsCalls (AreNoted config old) (AreNoted config new) (call ∷ [])
-  class_adds call may who noted_as none between =
-      let turn = call_event_of-turn call.call call.moment in record {
+  class_adds : (call : Exchange) → call.who ≡ next_who old → new.calls ≡ old.calls ++ event_for call ∷ [] → ((n : ℕ) → calls_at config.stripes n (call ∷ []) ≡ [])
+      → (IsBefore old.turn old.made → StandsBetween (EntersOnly new) config (histories_seen config old.sight) (histories_seen config new.sight) call)
+      → AddsCalls (AreNoted config old) (AreNoted config new) (call ∷ [])
+  class_adds call who noted_as none between =
+      let turn = call_event_of-turn call.call call.moment in
+      let more = ap turns_of noted_as ∙ turns_of-call old.calls (event_for call) turn in
+      record {
         at = λ calls noted. record {
-          stand = stand_more config nothing_seen (histories_seen config old.sight) (histories_seen config new.sight) calls call noted.stand between;
+          stand = stand_more (EntersOnly new) config nothing_seen (histories_seen config old.sight) (histories_seen config new.sight) calls call (stand_still calls noted) (between (earlier calls noted));
           at = λ n below.
               let all = filter-append (λ (c : Exchange). is_command_at config.stripes n c.call) calls (call ∷ [])
               ∙ (ap (λ (l : List Exchange). calls_at config.stripes n calls ++ l) (none n) ∙ append-nil (calls_at config.stripes n calls)) in
@@ -148,14 +174,15 @@ module _ (config : Config) (old new : PassView) (same : new.caller ≡ old.calle
               (kept_at (event_for call) turn noted_as calls noted n below);
           rising = λ n below. kept_rising (event_for call) turn noted_as calls noted n below;
           own = subst (λ (k : ℕ). AreInTurn k (calls ++ call ∷ [])) (sym same) (in_turn_more old calls call noted.own who may.turns noted.turns);
-          turns = turns_more old.calls new.calls calls call (ap turns_of noted_as ∙ turns_of-call old.calls (event_for call) turn) noted.turns;
+          turns = turns_more old.calls new.calls calls call more noted.turns;
+          before = before_next calls noted (event_for call) more;
         };
       }
 
   -- a call that went wrong is the last one begun, unless nothing happened
   breaks_off : (made : ScriptCall) (moment : ℕ) → IsCut old new (call_event_of made moment) → BreaksOff made moment (view_of config old) (view_of config new)
   breaks_off made moment (inl is) = record { at = λ calls noted. (None, tt, subst (λ (p : PassView). AreNoted config p calls None) (sym is) noted) }
-  breaks_off made moment (inr gained) =
+  breaks_off made moment (inr more) =
       let begun : Begun = record { call = made; moment = moment } in
       let event = call_event_of made moment in
       let turn = call_event_of-turn made moment in
@@ -164,11 +191,13 @@ module _ (config : Config) (old new : PassView) (same : new.caller ≡ old.calle
           Some begun,
           (refl, refl),
           record {
-            stand = stand_later config nothing_seen (histories_seen config old.sight) (histories_seen config new.sight) calls (seen_grow config old.sight new.sight grows) noted.stand;
-            at = λ n below. kept_at event turn gained calls noted n below;
-            rising = λ n below. kept_rising event turn gained calls noted n below;
+            stand = stand_later (EntersOnly new) config nothing_seen (histories_seen config old.sight) (histories_seen config new.sight) calls (seen_grow config old.sight new.sight grows)
+                (stand_still calls noted);
+            at = λ n below. kept_at event turn more calls noted n below;
+            rising = λ n below. kept_rising event turn more calls noted n below;
             own = subst (λ (k : ℕ). AreInTurn k calls) (sym same) noted.own;
-            turns = turns_begun old.calls new.calls calls begun gained noted.turns;
+            turns = turns_begun old.calls new.calls calls begun more noted.turns;
+            before = before_next calls noted event (ap turns_of more ∙ turns_of-call old.calls event turn);
           },
         );
       }
@@ -177,45 +206,64 @@ module _ (config : Config) (old new : PassView) (same : new.caller ≡ old.calle
   made_one : (call : ScriptCall) (answer : Answer) (moment : ℕ) → IsOfKind call answer → new.turn ≡ old.turn + 1
       → AddsCalls (AreNoted config old) (AreNoted config new) (exchange old.caller old.turn call moment answer ∷ [])
       → MakesCalls (call ∷ []) (answer ∷ []) moment (view_of config old) (view_of config new)
-  made_one asked answer moment kind turn adds = record { long = refl; kinds = (kind, tt); noted = adds; turns = turn; caller = same }
+  made_one which answer moment kind turn adds = record { long = refl; kinds = (kind, tt); noted = adds; turns = turn; caller = same }
 
   -- as a call answers it: a reply is noted
-  pub replied_ok : (command : Command) (moment : ℕ) (r : Result Reply Fault) → MayCall config old → OnOk r (new.turn ≡ old.turn + 1)
+  pub replied_ok : (command : Command) (moment : ℕ) (r : Result Reply Fault) → OnOk r (new.turn ≡ old.turn + 1)
       → IfOk r (IsRepliedBy config (stripe_number config.stripes command) old new command moment)
       → IfOk r (λ reply. MakesCalls (Asks command ∷ []) (Replied reply ∷ []) moment (view_of config old) (view_of config new))
-  replied_ok command moment (Ok reply) may turn by = made_one _ _ moment tt turn (replied_adds command moment reply may by)
-  replied_ok command moment (Err fault) may turn by = tt
+  replied_ok command moment (Ok reply) turn by = made_one _ _ moment tt turn (replied_adds command moment reply by)
+  replied_ok command moment (Err fault) turn by = tt
 
   -- juggling is noted where it was done
-  pub juggled_ok : (class : ClassNo) (moment : ℕ) (r : Result Moves Fault) → MayCall config old → OnOk r (new.turn ≡ old.turn + 1) → IsClass (setting_of config) class
-      → OnOk r (new.calls ≡ old.calls ++ juggling_of class moment ∷ []) → IfOk r (IsJuggledBy config class old new moment)
+  pub juggled_ok : (class : ClassNo) (moment : ℕ) (r : Result Moves Fault) → OnOk r (new.turn ≡ old.turn + 1) → IsClass (setting_of config) class
+      → OnOk r (new.calls ≡ old.calls ++ juggling_of class moment ∷ []) → Enters (IsOfWalk config class) old.turn new.sight old.made new.made → IfOk r (IsJuggledBy config class old new moment)
       → IfOk r (λ moves. MakesCalls (Juggles class ∷ []) (Moved moves ∷ []) moment (view_of config old) (view_of config new))
-  juggled_ok class moment (Ok moves) may turn is gained by =
-      made_one _ _ moment tt turn (class_adds _ may refl gained (λ n. refl) (juggled_between config class old new moment moves is grows by))
-  juggled_ok class moment (Err fault) may turn is gained by = tt
+  juggled_ok class moment (Ok moves) turn is more account by =
+      made_one _ _ moment tt turn (class_adds _ refl more (λ n. refl) (λ before. juggled_between config class old new moment moves is grows before account by))
+  juggled_ok class moment (Err fault) turn is more account by = tt
 
   -- and a crawl where it was made
-  pub crawled_ok : (class : ClassNo) (moment : ℕ) (r : Result Histogram Fault) → MayCall config old → OnOk r (new.turn ≡ old.turn + 1) → IsClass (setting_of config) class
+  pub crawled_ok : (class : ClassNo) (moment : ℕ) (r : Result Histogram Fault) → OnOk r (new.turn ≡ old.turn + 1) → IsClass (setting_of config) class
       → OnOk r (new.calls ≡ old.calls ++ crawling_of class moment ∷ [])
       → IfOk r (IsCrawledBy config class old new moment)
       → IfOk r (λ histogram. MakesCalls (Crawls class ∷ []) (Counted histogram ∷ []) moment (view_of config old) (view_of config new))
-  crawled_ok class moment (Ok histogram) may turn is gained by =
-      made_one _ _ moment tt turn (class_adds _ may refl gained (λ n. refl) (crawled_between config class old new moment histogram is grows by))
-  crawled_ok class moment (Err fault) may turn is gained by = tt
+  crawled_ok class moment (Ok histogram) turn is more by =
+      made_one _ _ moment tt turn (class_adds _ refl more (λ n. refl) (λ before. crawled_between config class old new moment histogram is grows before by))
+  crawled_ok class moment (Err fault) turn is more by = tt
 
   -- and a new limit where it was set
-  pub limited_ok : {T : Type 0} (class : ClassNo) (chunks moment : ℕ) (r : Result T Fault) → MayCall config old → OnOk r (new.turn ≡ old.turn + 1) → IsClass (setting_of config) class
-      → OnOk r (new.calls ≡ old.calls ++ limits_of class chunks ∷ []) → OnOk r (HasGained config class old.sight new.sight (next_who old) (limited_event (next_who old) chunks ∷ []))
+  pub limited_ok : {T : Type 0} (class : ClassNo) (chunks moment : ℕ) (r : Result T Fault) → OnOk r (new.turn ≡ old.turn + 1) → IsClass (setting_of config) class
+      → OnOk r (new.calls ≡ old.calls ++ limits_of class chunks ∷ []) → Enters (λ lock place event. lock ≡ class_lock config class) old.turn new.sight old.made new.made
+      → OnOk r (HasGained config class old.sight new.sight (next_who old) (limited_event (next_who old) chunks ∷ []))
       → OnOk r (MakesCalls (Limits class chunks ∷ []) (Limited ∷ []) moment (view_of config old) (view_of config new))
-  limited_ok class chunks moment (Ok x) may turn is gained by =
-      made_one _ _ moment tt turn (class_adds _ may refl gained (λ n. refl) (limited_between config class old.sight new.sight (next_who old) chunks moment is grows by))
-  limited_ok class chunks moment (Err fault) may turn is gained by = tt
+  limited_ok class chunks moment (Ok x) turn is more account by =
+      made_one _ _ moment tt turn (class_adds _ refl more (λ n. refl) (λ before. limited_between config class old new chunks moment is grows before account by))
+  limited_ok class chunks moment (Err fault) turn is more account by = tt
 
   -- and what went wrong breaks off
   pub call_failed : {T : Type 0} (made : ScriptCall) (moment : ℕ) (r : Result T Fault) → OnErr r (IsCut old new (call_event_of made moment))
       → OnErr r (BreaksOff made moment (view_of config old) (view_of config new))
   call_failed made moment (Ok x) cut = tt
   call_failed made moment (Err fault) cut = breaks_off made moment cut
+
+-- however a command ends, its account gained only spans of its turn
+pub command_gains : (config : Config) (number : ℕ) (old new : PassView) (command : Command) (moment : ℕ) (r : Result Reply Fault) → IfOk r (IsRepliedBy config number old new command moment)
+    → IfErr r (Fails config number old new command moment) → Gains old.turn old.made new.made
+command_gains config stripe old new command moment (Ok reply) by fails = gains _ old new by.account.enters
+command_gains config stripe old new command moment (Err fault) by fails = ⊎_elim
+    (λ early. gains_none old.turn old.made new.made (ap (λ (p : PassView). p.made) early.0))
+    (λ cut. gains _ old new cut.account)
+    fails
+
+-- and so with a crawl
+pub crawl_gains : (config : Config) (class : ClassNo) (old new : PassView) (moment : ℕ) (r : Result Histogram Fault) → IfOk r (IsCrawledBy config class old new moment)
+    → OnErr r ((new ≡ old) ⊎ IsCrawledTill config class old new moment) → Gains old.turn old.made new.made
+crawl_gains config class old new moment (Ok histogram) by cut = gains _ old new by.account
+crawl_gains config class old new moment (Err fault) by cut = ⊎_elim
+    (λ same. gains_none old.turn old.made new.made (ap (λ (p : PassView). p.made) same))
+    (λ till. gains _ old new till.account)
+    cut
 
 -- a call leaves its caller, which may call again after it
 pub goes_on : {T : Type 0} (config : Config) (old new : PassView) (r : Result T Fault) → MayCall config old → new.caller ≡ old.caller → new.turn ≡ length (turns_of new.calls)

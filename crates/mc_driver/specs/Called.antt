@@ -2,15 +2,15 @@
 -- the event has one (own).
 use Rattle.std.specs.Prelude.{ℕ, ◌≡◌, ◌<◌, ◌≤◌, ◌⊎◌, List, [], ◌∷◌, ◌++◌, Option, Some, None, length, map, slice_get}
 use Rattle.mc_item.specs.declared.{call_event.CallEvent.CallEvent, class_event.ClassEvent.ClassEvent, config.Config.Config, item.ClassNo.ClassNo}
-use Rattle.mc_item.specs.declared.{stripe_event.StripeEvent.StripeEvent}
+use Rattle.mc_item.specs.declared.{item.Who.Who, stripe_event.StripeEvent.StripeEvent}
 use Rattle.mc_item.specs.declared.stripe_event.StripeEvent.TheVariants as events
 use Rattle.mc_script.specs.Exchanges.{Asks, Begun, Crawls, Exchange, Juggles, Limits, ScriptCall}
 use Rattle.mc_evidence.specs.Setting.{IsClass}
 use Rattle.mc_board.specs.Accounts.{maker_of, who_of}
 use Rattle.mc_store.specs.Callers.{IsCalled, IsMomentOf, asked_for, crawling_of, juggling_of, limits_of, turns_of}
 use Rattle.mc_store.specs.{Locked.setting_of, Made.WasCalled, Passes.PassView}
-use Rattle.mc_store.specs.Finals.{AreItsOwn, AreItsOwnInClasses, FinalView, IsBehindClasses, IsBehindStripes}
-use Rattle.mc_driver.specs.{Run.HasFull, Stand.AreOnly, Stand.Histories, Stand.Stand, Stand.StandsAnywhere, Stand.nothing_seen}
+use Rattle.mc_store.specs.Finals.{AreItsOwn, AreItsOwnInClasses, FinalView, IsAccounted, IsBehindClasses, IsBehindStripes}
+use Rattle.mc_driver.specs.{Run.HasFull, Stand.AreOnly, Stand.Histories, Stand.MakesOnly, Stand.Stand, Stand.StandsAnywhere, Stand.nothing_seen}
 
 -- the event of a caller's history for this call at this moment; one that sets a limit has no moment
 abbrev pub call_event_of : ScriptCall → ℕ → CallEvent
@@ -34,17 +34,18 @@ IsAtMoment (events.Did did) moment = did.moment ≡ moment
 IsAtMoment (events.Lost lost) moment = IsMomentOf lost.cause moment
 IsAtMoment (events.Cooled cooled) moment = Unit {0}
 
--- the histories have the call of an event: by the event's caller, in its turn, at its moment
-pub record HasCall (config : Config) (histories : Histories) (event : StripeEvent) : Type 0 where
+-- the histories have a completed call of this caller in this turn, with its answer
+pub record HasCall (config : Config) (histories : Histories) (who : Who) : Type 0 where
   pub call : Exchange
   pub stands : StandsAnywhere config histories call
-  pub who_is : who_of event ≡ call.who
-  pub moment_is : IsAtMoment event call.moment
+  pub who_is : who ≡ call.who
 
--- each event of this caller, on any stripe, belongs to a completed call: the histories have that call with its answer
+-- each event of this caller, on any stripe or class, belongs to a completed call; a stripe's is at the call's moment
 pub record AreWholeTurns (config : Config) (caller : ℕ) (histories : Histories) : Type 0 where
   pub at : (number place : ℕ) (event : StripeEvent) → number < config.stripes → slice_get (histories.stripes number) place ≡ Some event
-      → (who_of event).caller ≡ caller → HasCall config histories event
+      → (who_of event).caller ≡ caller → (has : HasCall config histories (who_of event)) × IsAtMoment event has.call.moment
+  pub at_classes : (class : ClassNo) (place : ℕ) (event : ClassEvent) → IsClass (setting_of config) class
+      → slice_get (histories.classes class) place ≡ Some event → (maker_of event).caller ≡ caller → HasCall config histories (maker_of event)
 
 -- each event of this caller, on any stripe or class, belongs to one of these calls
 pub record AreCalledBy (config : Config) (caller : ℕ) (histories : Histories) (calls : List CallEvent) : Type 0 where
@@ -53,10 +54,11 @@ pub record AreCalledBy (config : Config) (caller : ℕ) (histories : Histories) 
   pub called_in_classes : (class : ClassNo) (place : ℕ) (event : ClassEvent) → IsClass (setting_of config) class
       → slice_get (histories.classes class) place ≡ Some event → (maker_of event).caller ≡ caller → WasCalled calls class event
 
--- what is known of a caller's calls: the histories have them in turn, and the stripes have no other commands of that caller. The
--- caller's own history has just these calls, then the one that broke off if one did, and each of its events belongs to one of these
+-- what is known of a caller's calls: the histories have them in turn, each with all its events, and the stripes have no other
+-- commands of that caller. The caller's own history has just these calls, then the one that broke off if one did, and each of its
+-- events belongs to one of these
 pub record AreItsCalls (config : Config) (caller : ℕ) (histories : Histories) (calls : List Exchange) (begun : Option Begun) : Type 0 where
-  pub stand : Stand config nothing_seen histories calls
+  pub stand : Stand (MakesOnly config histories) config nothing_seen histories calls
   pub only : AreOnly config.stripes caller histories calls
   pub history : List CallEvent
   pub just : turns_of history ≡ turns_for calls begun
@@ -85,9 +87,11 @@ pub record AreByCallers (config : Config) (callers : ℕ) (histories : Histories
   pub at_classes : (class : ClassNo) (place : ℕ) (event : ClassEvent) → IsClass (setting_of config) class
       → slice_get (histories.classes class) place ≡ Some event → (maker_of event).caller < callers
 
--- a pass agrees with the closed store: each history begins with what it has seen, and its caller's events are of its calls
+-- a pass agrees with the closed store: each history begins with what it has seen, and its caller's events are of its calls and in
+-- its account
 pub record IsCompared (pass : PassView) (final : FinalView) : Type 0 where
   pub stripes : IsBehindStripes pass.sight final.stripes
   pub classes : IsBehindClasses pass.sight final.classes
   pub own : AreItsOwn pass final.stripes
   pub own_in_classes : AreItsOwnInClasses pass final.classes
+  pub account : IsAccounted pass final.stripes final.classes

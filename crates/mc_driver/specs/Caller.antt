@@ -1,10 +1,11 @@
 -- What a caller of a shared store knows of its calls so far, by its pass. A pass has the caller's history and what it has seen.
-use Rattle.std.specs.Prelude.{ℕ, ◌≡◌, ◌<◌, ◌≤◌, ◌+◌, ◌⊎◌, List, [], ◌∷◌, Option, Some, if◌then◌else◌, nat_eq, slice_get, length}
-use Rattle.mc_item.specs.declared.{config.Config.Config, call_event.CallEvent.CallEvent, stripe_event.Did.Did, stripe_event.StripeEvent.StripeEvent}
+use Rattle.std.specs.Prelude.{ℕ, ◌≡◌, ◌<◌, ◌≤◌, ◌+◌, ◌⊎◌, List, [], ◌∷◌, Option, Some, IsSomeAnd, if◌then◌else◌, nat_eq, slice_get, length}
+use Rattle.mc_item.specs.declared.{config.Config.Config, call_event.CallEvent.CallEvent, event.Event.Event, item.Who.Who, stripe_event.Did.Did}
+use Rattle.mc_item.specs.declared.stripe_event.StripeEvent.{StripeEvent}
 use Rattle.mc_item.specs.declared.call_event.CallEvent.TheVariants as calls
 use Rattle.mc_item.specs.declared.stripe_event.StripeEvent.TheVariants as events
-use Rattle.mc_board.specs.declared.rule.Sight.{Sight}
-use Rattle.mc_board.specs.Histories.{list_at}
+use Rattle.mc_board.specs.declared.{rule.Sight.Sight, rule.Span.Span}
+use Rattle.mc_board.specs.{Accounts.IsEntered, Accounts.maker_in, Histories.list_at}
 use Rattle.mc_evidence.specs.{Seen.classes_seen, Seen.stripes_seen, Setting.IsClass}
 use Rattle.mc_script.specs.{Calls.CallsView, Exchanges.Begun, Exchanges.Exchange}
 use Rattle.mc_store.specs.{Passes.PassView, Callers.turns_of, Locked.setting_of, Serving.HasSeenShort}
@@ -43,15 +44,25 @@ places_in number (calls.Crawled worked ∷ more) = places_in number more
 places_in number (calls.Limits limits ∷ more) = places_in number more
 places_in number (calls.Answered answered ∷ more) = if nat_eq answered.stripe.0 number then answered.place ∷ places_in number more else places_in number more
 
+-- by a pass's account each event of this call was seen, and suits, under its lock
+pub record EntersOnly (pass : PassView) (who : Who) (Suits : (lock place : ℕ) → Event → Type 0) : Type 0 where
+  pub each : (lock place : ℕ) → IsEntered pass.made who.turn lock place
+      → IsSomeAnd (slice_get (list_at pass.sight.seen lock) place) (λ event. maker_in event ≡ Some who → Suits lock place event)
+
+-- each event of an account is of a turn before this one
+pub record IsBefore (turn : ℕ) (made : List Span) : Type 0 where
+  pub each : (k : ℕ) (span : Span) → slice_get made k ≡ Some span → span.turn < turn
+
 -- what a pass knows of its caller's calls: it has seen these in turn, each of this caller, with commands at just the places that the
--- caller's history has; that history has just these calls, then the one that broke off if one did
+-- caller's history has; that history has just these calls, then the one that broke off if one did; its account is of these turns
 pub record AreNoted (config : Config) (pass : PassView) (calls : List Exchange) (begun : Option Begun) : Type 0 where
-  pub stand : Stand config nothing_seen (histories_seen config pass.sight) calls
+  pub stand : Stand (EntersOnly pass) config nothing_seen (histories_seen config pass.sight) calls
   pub at : (number : ℕ) → number < config.stripes
       → AreAt (stripes_seen (list_at pass.sight.seen) number) pass.caller (places_in number pass.calls) (calls_at config.stripes number calls)
   pub rising : (number : ℕ) → number < config.stripes → AreRising 0 (places_in number pass.calls)
   pub own : AreInTurn pass.caller calls
   pub turns : turns_of pass.calls ≡ turns_for calls begun
+  pub before : IsBefore (length (turns_of pass.calls)) pass.made
 
 -- a pass may make a call: there is a stripe, and the caller's history has a call for each turn
 pub record MayCall (config : Config) (pass : PassView) : Type 0 where

@@ -1,3 +1,4 @@
+pub mod Searched
 pub mod Noted
 pub mod Stand
 pub mod Called

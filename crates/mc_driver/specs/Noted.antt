@@ -1,10 +1,10 @@
 -- How the histories of a store note a call with its answer, after all that its caller had seen by then (own).
-use Rattle.std.specs.Prelude.{ℕ, ◌≡◌, ◌≤◌, List, [], ◌∷◌, ◌++◌, length}
+use Rattle.std.specs.Prelude.{ℕ, ◌≡◌, ◌≤◌, ◌+◌, List, [], ◌∷◌, ◌++◌, length}
 use Rattle.std.specs.List.{flat_map}
 use mathlib.Core.List.{IsPrefix}
 use Rattle.mc_item.specs.declared.{class_event.ClassEvent.ClassEvent, command.Command.Command, config.Config.Config, counts.Moves.Moves, item.ClassNo.ClassNo}
 use Rattle.mc_item.specs.declared.{item.Who.Who, reply.Reply.Reply, reply.Room.Room, stripe_event.Did.Did, stripe_event.StripeEvent.StripeEvent}
-use Rattle.mc_item.specs.declared.{counts.Histogram.Histogram}
+use Rattle.mc_item.specs.declared.{counts.Histogram.Histogram, event.Event.Event}
 use Rattle.mc_item.specs.declared.stripe_event.StripeEvent.TheVariants as events
 use Rattle.mc_hits.specs.declared.rule.Hit.{Hit}
 use Rattle.mc_proto.specs.Answers.{Replied}
@@ -17,9 +17,10 @@ use Rattle.mc_evidence.specs.{Refusals.WasTried, Setting.IsClass, Setting.site_i
 use Rattle.mc_crawl.specs.{CrawlCount.IsBalanced, Snapshot.links_of}
 use Rattle.mc_item.specs.Counts.{no_counts}
 use Rattle.mc_item.specs.declared.reply.Room.TheVariants as rooms
-use Rattle.mc_store.specs.{Accounts.Stretch, Callers.HasNoneOf, Commands.LeadsUp, Crawls.AreLinksCounted, Crawls.HasReclaims}
-use Rattle.mc_store.specs.{Earned.IsLastResort, Hits.AreAdvanced, Locked.setting_of, Made.HasNoneMadeBy, Sides.class_told}
-use Rattle.mc_stripe.specs.StripeState.{Stripe, stripe}
+use Rattle.mc_store.specs.{Accounts.IsOfCommand, Accounts.IsWithin, Accounts.Stretch, Callers.HasNoneOf, Commands.LeadsUp, Crawls.AreLinksCounted}
+use Rattle.mc_store.specs.{Crawls.HasReclaims, Earned.IsLastResort, Hits.AreAdvanced, Locked.setting_of, Made.HasNoneMadeBy, Sides.class_told}
+use Rattle.mc_stripe.specs.{Plan.visible_row, StripeState.Stripe, StripeState.stripe}
+use Rattle.mc_driver.specs.Searched.{NotesSearchFor}
 
 -- an answered command as an exchange, without its room (the link or the refusal that it was given)
 abbrev pub exchange_of : Did → Exchange
@@ -47,9 +48,15 @@ answered_event who command moment reply room = events.Did (answered_command who 
 abbrev pub stripe_with : Config → ℕ → List StripeEvent → Stripe
 stripe_with config number history = stripe (site_in (setting_of config) number) config.max_events config.keeps_events history 0
 
+-- what an answered command may make: what its account may gain, and of its own stripe's events only these and the answer
+abbrev pub IsOfAnswer : Config → ℕ → Command → ℕ → (older made : List StripeEvent) → Stretch → (lock place : ℕ) → Event → Type 0
+IsOfAnswer config number command moment older made stretch lock place event =
+    IsOfCommand config (stripe_with config number older) command moment stretch lock place event
+    × (lock ≡ number → IsWithin (record { from = length older; until = length (older ++ made) + 1 }) place)
+
 -- a stripe's history has this answered command after what was seen of it: older events, none of them of this call, then just what
 -- leads up to the command, then its answer. If that cites a refusal, the class's history has that one, by the same call, made not
--- at once but after all rounds of a search
+-- at once but after all rounds of a search. The command searched for a chunk at most once
 pub record NotesCommand (config : Config) (number : ℕ) (seen history : List StripeEvent) (classes : ClassNo
     → List ClassEvent) (who : Who) (command : Command) (moment : ℕ) (reply : Reply) : Type 0 where
   pub older : List StripeEvent
@@ -64,6 +71,8 @@ pub record NotesCommand (config : Config) (number : ℕ) (seen history : List St
       → WasTried (site_in (setting_of config) number) class (classes class) (answered_command who command moment reply room)
   pub last : (class : ClassNo) (place : ℕ) → IsClass (setting_of config) class → room ≡ rooms.Refused class place
       → IsLastResort config (record { 0 = number }) class place (classes class) (answered_command who command moment reply room)
+  pub stretch : Stretch
+  pub search : NotesSearchFor config (visible_row (stripe_with config number older) command moment).need classes who moment stretch
 
 -- a class's history has a call's juggling with these moves, after what was seen of it, in one unbroken stretch: the moves of at most
 -- 256 hits that the call had taken, then surveys and walks

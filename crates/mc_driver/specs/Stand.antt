@@ -1,16 +1,17 @@
--- A caller's calls in the histories of a store (own). Each is there after all that the caller had seen by then, and the stripes
--- have no other commands of that caller.
-use Rattle.std.specs.Prelude.{ℕ, ◌≡◌, ◌<◌, Bool, false, List, [], ◌∷◌, nat_eq}
+-- A caller's calls in the histories of a store (own). Each is there after all that the caller had seen by then, with all events that
+-- it made, and the stripes have no other commands of that caller.
+use Rattle.std.specs.Prelude.{ℕ, ◌≡◌, ◌<◌, ◌++◌, Bool, false, List, [], ◌∷◌, Some, length, nat_eq, slice_get}
 use Rattle.std.specs.List.{filter}
 use mathlib.Core.List.{IsPrefix}
 use Rattle.mc_item.specs.{Command.key_of, Measure.stripe_of}
 use Rattle.mc_item.specs.declared.{class_event.ClassEvent.ClassEvent, command.Command.Command, config.Config.Config, item.ClassNo.ClassNo, item.Who.Who}
-use Rattle.mc_item.specs.declared.{stripe_event.StripeEvent.StripeEvent}
+use Rattle.mc_item.specs.declared.{event.Event.Event, event.Event.TheVariants.Class, event.Event.TheVariants.Stripe, stripe_event.StripeEvent.StripeEvent}
+use Rattle.mc_board.specs.Accounts.{maker_of, who_of}
 use Rattle.mc_evidence.specs.{Locks.ClassKeeps, Locks.StripeKeeps, Setting.IsClass}
 use Rattle.mc_proto.specs.Answers.{Answer, Counted, Limited, Moved, Replied}
 use Rattle.mc_script.specs.Exchanges.{Asks, Crawls, Exchange, Juggles, Limits, ScriptCall}
-use Rattle.mc_store.specs.Locked.{setting_of}
-use Rattle.mc_driver.specs.Noted.{NotesCommand, NotesCrawling, NotesJuggling, NotesLimit, exchanges_in}
+use Rattle.mc_store.specs.{Accounts.IsOfStretch, Accounts.IsOfStretches, Locked.class_lock, Locked.setting_of}
+use Rattle.mc_driver.specs.Noted.{IsOfAnswer, NotesCommand, NotesCrawling, NotesJuggling, NotesLimit, exchanges_in}
 
 -- the histories of a store: of its stripes, numbered from 0, and of its slab classes, numbered from 1
 pub record Histories : Type 0 where
@@ -37,26 +38,12 @@ IsPlaced config (Juggles class) = IsClass (setting_of config) class
 IsPlaced config (Crawls class) = IsClass (setting_of config) class
 IsPlaced config (Limits class n) = IsClass (setting_of config) class
 
--- the histories have this call with its answer after what was seen: a command in its stripe's, other calls in their class's
-abbrev pub StandsAs : Config → Histories → Histories → Who → ℕ → ScriptCall → Answer → Type 0
-StandsAs config seen histories who moment (Asks command) (Replied reply) =
-    let number = stripe_number config.stripes command in
-    NotesCommand config number (seen.stripes number) (histories.stripes number) histories.classes who command moment reply
-StandsAs config seen histories who moment (Juggles class) (Moved moves) =
-    NotesJuggling config (seen.classes class) (histories.classes class) who class moment moves
-StandsAs config seen histories who moment (Crawls class) (Counted histogram) =
-    NotesCrawling config (seen.classes class) (histories.classes class) who class moment histogram
-StandsAs config seen histories who moment (Limits class n) Limited = NotesLimit (seen.classes class) (histories.classes class) who n
-StandsAs config seen histories who moment call answer = ⊥
-
--- the histories have this exchange after what was seen: with its caller and turn, its call, its moment and its answer (for a new
--- limit no moment is noted)
-abbrev pub StandsBehind : Config → Histories → Histories → Exchange → Type 0
-StandsBehind config seen histories call = StandsAs config seen histories call.who call.moment call.call call.answer
-
--- the histories have this exchange at any place
-abbrev pub StandsAnywhere : Config → Histories → Exchange → Type 0
-StandsAnywhere config histories call = StandsBehind config nothing_seen histories call
+-- each event of this call in the histories suits, at its place under its lock: a stripe's number, or for a class one after those
+pub record MakesOnly (config : Config) (histories : Histories) (who : Who) (Suits : (lock place : ℕ) → Event → Type 0) : Type 0 where
+  pub stripes : (number place : ℕ) (event : StripeEvent) → number < config.stripes → slice_get (histories.stripes number) place ≡ Some event
+      → who_of event ≡ who → Suits number place (Stripe event)
+  pub classes : (class : ClassNo) (place : ℕ) (event : ClassEvent) → IsClass (setting_of config) class
+      → slice_get (histories.classes class) place ≡ Some event → maker_of event ≡ who → Suits (class_lock config class) place (Class event)
 
 -- the history that this call is in is legal or lawful, and the other histories have the partner of each of its events
 abbrev pub HasEvidence : Config → Histories → ScriptCall → Type 0
@@ -67,23 +54,52 @@ HasEvidence config reached (Juggles class) = ClassKeeps (setting_of config) clas
 HasEvidence config reached (Crawls class) = ClassKeeps (setting_of config) class (reached.classes class) reached.stripes
 HasEvidence config reached (Limits class n) = ClassKeeps (setting_of config) class (reached.classes class) reached.stripes
 
--- this call took its caller from the histories seen to those reached, which have it after what was seen, and the evidence for it
-pub record StandsBetween (config : Config) (seen reached : Histories) (call : Exchange) : Type 0 where
-  pub grew : Grow config seen reached
-  pub placed : IsPlaced config call.call
-  pub stands : StandsBehind config seen reached call
-  pub evidence : HasEvidence config reached call.call
+-- `makes` says of a call that it makes only such events
+module _ (makes : Who → ((lock place : ℕ) → Event → Type 0) → Type 0) where
+  -- the histories have this call with its answer after what was seen: a command in its stripe's, other calls in their class's. The
+  -- call makes only such events: juggling those of its stretch of the class, a crawl those of its links, both others of stripes
+  abbrev pub StandsAs : Config → Histories → Histories → Who → ℕ → ScriptCall → Answer → Type 0
+  StandsAs config seen histories who moment (Asks command) (Replied reply) =
+      let number = stripe_number config.stripes command in
+      (noted : NotesCommand config number (seen.stripes number) (histories.stripes number) histories.classes who command moment reply)
+      × makes who (IsOfAnswer config number command moment noted.older noted.made noted.stretch)
+  StandsAs config seen histories who moment (Juggles class) (Moved moves) =
+      (noted : NotesJuggling config (seen.classes class) (histories.classes class) who class moment moves)
+      × makes who (IsOfStretch config class (record { from = length noted.before; until = length ((noted.before ++ noted.advances) ++ noted.own) }))
+  StandsAs config seen histories who moment (Crawls class) (Counted histogram) =
+      (noted : NotesCrawling config (seen.classes class) (histories.classes class) who class moment histogram)
+      × makes who (IsOfStretches config class noted.stretches)
+  StandsAs config seen histories who moment (Limits class n) Limited =
+      (noted : NotesLimit (seen.classes class) (histories.classes class) who n)
+      × makes who (λ lock place event. (lock ≡ class_lock config class) × (place ≡ length noted.before))
+  StandsAs config seen histories who moment call answer = ⊥
 
--- a call comes next after what was seen, and the later calls come after what its caller has reached by it
-pub record StandsNext (config : Config) (seen : Histories) (call : Exchange) (later : Histories → Type 0) : Type 0 where
-  pub reached : Histories
-  pub between : StandsBetween config seen reached call
-  pub behind : later reached
+  -- the histories have this exchange after what was seen: with its caller and turn, its call, its moment and its answer (for a new
+  -- limit no moment is noted)
+  abbrev pub StandsBehind : Config → Histories → Histories → Exchange → Type 0
+  StandsBehind config seen histories call = StandsAs config seen histories call.who call.moment call.call call.answer
 
--- the histories have these calls in turn: the first after what was seen, each other after all that the caller reached before it
-abbrev pub Stand : Config → Histories → Histories → List Exchange → Type 0
-Stand config seen histories [] = Grow config seen histories
-Stand config seen histories (call ∷ calls) = StandsNext config seen call (λ reached. Stand config reached histories calls)
+  -- this call took its caller from the histories seen to those reached, which have it after what was seen, and the evidence for it
+  pub record StandsBetween (config : Config) (seen reached : Histories) (call : Exchange) : Type 0 where
+    pub grew : Grow config seen reached
+    pub placed : IsPlaced config call.call
+    pub stands : StandsBehind config seen reached call
+    pub evidence : HasEvidence config reached call.call
+
+  -- a call comes next after what was seen, and the later calls come after what its caller has reached by it
+  pub record StandsNext (config : Config) (seen : Histories) (call : Exchange) (later : Histories → Type 0) : Type 0 where
+    pub reached : Histories
+    pub between : StandsBetween config seen reached call
+    pub behind : later reached
+
+  -- the histories have these calls in turn: the first after what was seen, each other after all that the caller reached before it
+  abbrev pub Stand : Config → Histories → Histories → List Exchange → Type 0
+  Stand config seen histories [] = Grow config seen histories
+  Stand config seen histories (call ∷ calls) = StandsNext config seen call (λ reached. Stand config reached histories calls)
+
+-- the histories have this exchange at any place, and no other events of its call
+abbrev pub StandsAnywhere : Config → Histories → Exchange → Type 0
+StandsAnywhere config histories call = StandsBehind (MakesOnly config histories) config nothing_seen histories call
 
 -- whether a call is a command on this stripe, among so many stripes
 abbrev pub is_command_at : ℕ → ℕ → ScriptCall → Bool

@@ -5,7 +5,7 @@ use super::lines;
 use super::runs::{Ends, WHOLE, add_script, asserts_outcomes, asserts_output, config_of, run_of};
 use mc_driver::{Final, Outcome};
 use mc_history::History;
-use mc_item::{ClassEvent, ClassNo};
+use mc_item::{ClassEvent, ClassNo, Who};
 use mc_segment::ShownClass;
 use std::alloc::Global;
 use std::process::Abort;
@@ -104,6 +104,47 @@ fn asserts_surveys<R: Abort>(rt: &R, alloc: Global, ledger: &Final, caller: u32)
     assert_eq!(rt; surveys.as_slice(), wanted.as_slice());
 }
 
+// Who made an event of a class.
+fn maker_of(event: &ClassEvent) -> Who {
+    match event {
+        ClassEvent::Linked(e) => e.who,
+        ClassEvent::Unlinked(e) => e.who,
+        ClassEvent::Shifted(e) => e.who,
+        ClassEvent::Evicted(e) => e.who,
+        ClassEvent::Reclaimed(e) => e.who,
+        ClassEvent::Surveyed(e) => e.who,
+        ClassEvent::Refused(e) => e.who,
+        ClassEvent::Limited(e) => e.who,
+    }
+}
+
+// The turns of a caller's events of a class: one for each stretch of events of one turn.
+fn turns_of<R: Abort>(
+    rt: &R,
+    alloc: Global,
+    history: &History<ClassEvent, ShownClass>,
+    caller: u32,
+) -> Vec<u64> {
+    let mut turns = Vec::new(alloc);
+    let mut last = None;
+    for place in 0..history.len() {
+        let who = maker_of(history.get(place).expect(rt, "an event"));
+        if who.caller == caller && last != Some(who) {
+            turns.push(who.turn).expect(rt, "memory");
+        }
+        last = Some(who);
+    }
+    turns
+}
+
+// Asserts that each of this caller's three calls made its events of the class in one stretch.
+fn asserts_stretches<R: Abort>(rt: &R, alloc: Global, ledger: &Final, caller: u32)
+    requires { 1 ≤ length ledger.now.classes }
+{
+    let turns = turns_of(rt, alloc, ledger.class(ClassNo(1)).history(), caller);
+    assert_eq!(rt; turns.as_slice(), [0, 1, 2].as_slice());
+}
+
 fn check_upkeep<R: Abort + RandomSource + Threads + Wait + Sync>(
     rt: &R,
     alloc: Global,
@@ -116,6 +157,7 @@ fn check_upkeep<R: Abort + RandomSource + Threads + Wait + Sync>(
     asserts_outcomes(rt, run.outcomes.as_slice(), row.outcomes);
     asserts_output(rt, alloc, run.ends.as_slice(), row.output);
     asserts_surveys(rt, alloc, &run.ledger, row.maintainer);
+    asserts_stretches(rt, alloc, &run.ledger, row.maintainer);
 }
 
 // Of so many scripts the maintainer is the caller behind the last one.

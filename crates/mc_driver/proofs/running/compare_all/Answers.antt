@@ -19,7 +19,13 @@ loop-i-preserved g c =
           let stripes = subst (λ (f : FinalView). AreStripes table config f.stripes) (sym i.0) c.requires.stripes in
           let classes = subst (λ (f : FinalView). AreClasses table config f.classes) (sym i.0) c.requires.classes in
           let compared : IsCompared x c.loop-i.ledger =
-          record { stripes = c.compare.ensures.stripes; classes = c.compare.ensures.classes; own = c.compare.ensures.own stripes; own_in_classes = c.compare.ensures.own_in_classes classes } in
+          record {
+            stripes = c.compare.ensures.stripes;
+            classes = c.compare.ensures.classes;
+            own = c.compare.ensures.own stripes;
+            own_in_classes = c.compare.ensures.own_in_classes classes;
+            account = c.compare.ensures.account;
+          } in
           subst (λ (f : FinalView). IsCompared p f) i.0 (subst (λ (v : PassView). IsCompared v c.loop-i.ledger) is compared)),
     )
 

@@ -2,21 +2,29 @@ use Rattle.std.proofs.Common.{refl}
 use Rattle.mc_item.specs.{Command.key_of, Measure.stripe_of}
 use Rattle.mc_script.specs.Exchanges.{Asks}
 use Rattle.mc_store.specs.Callers.{asked_for}
-use Rattle.mc_driver.proofs.{CalledEventLemmas.cut_calls, CalledEventLemmas.full_calls, CalledEventLemmas.short_any, SharedCallLemmas.call_failed, SharedCallLemmas.goes_on, SharedCallLemmas.replied_ok}
+use Rattle.mc_driver.proofs.{CalledEventLemmas.cut_calls, CalledEventLemmas.full_calls, CalledEventLemmas.short_any, SharedCallLemmas.call_failed, SharedCallLemmas.command_gains}
+use Rattle.mc_driver.proofs.SharedCallLemmas.{goes_on, replied_ok}
 use Rattle.mc_evidence.proofs.SoundLemmas.{below_stripes}
 use Rattle.mc_driver.proofs.caller.CallerCalls.command.Goals as goal
 
 pub returns-clause-ok : goal.returns-clause-ok
 returns-clause-ok g c =
-    replied_ok g.N.Named.config c.args.self.now.pass c.command.new.pass c.command.ensures.caller c.command.ensures.grows.seen c.args.command c.args.moment c.command.result
-    c.requires.may c.command.ensures.turn.1 c.command.ensures.replied
+    let config = g.N.Named.config in
+    let old = c.args.self.now.pass in
+    let new = c.command.new.pass in
+    let gained = command_gains config (stripe_of (key_of c.args.command) config.stripes).0 old new c.args.command c.args.moment c.command.result c.command.ensures.replied c.command.ensures.cut in
+    replied_ok config old new c.command.ensures.caller c.command.ensures.grows.seen c.requires.may gained c.args.command c.args.moment c.command.result c.command.ensures.turn.1
+    c.command.ensures.replied
 
 pub returns-clause-err : goal.returns-clause-err
 returns-clause-err g c =
+    let config = g.N.Named.config in
+    let number = (stripe_of (key_of c.args.command) config.stripes).0 in
     let old = c.args.self.now.pass in
     let new = c.command.new.pass in
-    call_failed g.N.Named.config old new c.command.ensures.caller c.command.ensures.grows.seen (Asks c.args.command) c.args.moment c.command.result
-    (cut_calls g.N.Named.config (stripe_of (key_of c.args.command) g.N.Named.config.stripes).0 old new c.args.command c.args.moment c.command.result c.command.ensures.cut)
+    let gained = command_gains config number old new c.args.command c.args.moment c.command.result c.command.ensures.replied c.command.ensures.cut in
+    call_failed config old new c.command.ensures.caller c.command.ensures.grows.seen c.requires.may gained (Asks c.args.command) c.args.moment c.command.result
+    (cut_calls config number old new c.args.command c.args.moment c.command.result c.command.ensures.cut)
 
 pub returns-clause-caller : goal.returns-clause-caller
 returns-clause-caller g c =

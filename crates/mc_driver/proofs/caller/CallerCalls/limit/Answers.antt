@@ -2,17 +2,19 @@ use Rattle.std.proofs.Common.{⊎_elim, inl, inr, refl}
 use Rattle.mc_script.specs.Exchanges.{Limits}
 use Rattle.mc_store.specs.Callers.{limits_of}
 use Rattle.mc_store.proofs.SeenStripeLemmas.{on_err_more}
-use Rattle.mc_driver.proofs.{CalledEventLemmas.full_calls, CalledEventLemmas.full_class_any, SharedCallLemmas.call_failed, SharedCallLemmas.goes_on, SharedCallLemmas.limited_ok}
+use Rattle.mc_driver.proofs.{EnteredCallLemmas.gains, CalledEventLemmas.full_calls, CalledEventLemmas.full_class_any, SharedCallLemmas.call_failed, SharedCallLemmas.goes_on, SharedCallLemmas.limited_ok}
 use Rattle.mc_driver.proofs.caller.CallerCalls.limit.Goals as goal
 
 pub returns-clause-ok : goal.returns-clause-ok
 returns-clause-ok g c = λ moment.
-    limited_ok g.N.Named.config c.args.self.now.pass c.chunks.new.pass c.chunks.ensures.caller c.chunks.ensures.grows.seen c.args.class c.args.chunks moment c.chunks.result
-    c.requires.may c.chunks.ensures.turn.1 c.requires.there c.chunks.ensures.calls c.chunks.ensures.limited
+    let gained = gains _ c.args.self.now.pass c.chunks.new.pass c.chunks.ensures.account in
+    limited_ok g.N.Named.config c.args.self.now.pass c.chunks.new.pass c.chunks.ensures.caller c.chunks.ensures.grows.seen c.requires.may gained
+    c.args.class c.args.chunks moment c.chunks.result c.chunks.ensures.turn.1 c.requires.there c.chunks.ensures.calls c.chunks.ensures.account c.chunks.ensures.limited
 
 pub returns-clause-err : goal.returns-clause-err
 returns-clause-err g c = λ moment.
-    call_failed g.N.Named.config c.args.self.now.pass c.chunks.new.pass c.chunks.ensures.caller c.chunks.ensures.grows.seen (Limits c.args.class c.args.chunks) moment c.chunks.result
+    let gained = gains _ c.args.self.now.pass c.chunks.new.pass c.chunks.ensures.account in
+    call_failed g.N.Named.config c.args.self.now.pass c.chunks.new.pass c.chunks.ensures.caller c.chunks.ensures.grows.seen c.requires.may gained (Limits c.args.class c.args.chunks) moment c.chunks.result
     (on_err_more c.chunks.result _ _ (λ cut. ⊎_elim (λ same. inl same) (λ more. inr more.0) cut) c.chunks.ensures.cut)
 
 pub returns-clause-caller : goal.returns-clause-caller
