@@ -1,7 +1,4 @@
 //! Small classes by calls: lists, sums and surveys were worked out by hand.
-ghost use Rattle.std.specs.Prelude.{◌≡◌, IfOk};
-ghost use Rattle.mc_item.specs.Config.{IsSound};
-
 use super::WHO;
 use super::deeds::{Call, New, try_force, try_link};
 use super::rows::Ask::{Do, Hit, KeepActive, Reserve, See, SetChunks, Survey, Surveys};

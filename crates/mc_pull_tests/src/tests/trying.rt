@@ -1,6 +1,6 @@
 //! Tries of commands on a stripe and two classes, whose histories agree.
 ghost use Rattle.std.specs.Prelude.{◌≡◌, ◌≤◌, ◌^◌, true, IfOk, OnOk, Some, slice_get};
-ghost use Rattle.mc_item.specs.{Command.key_of, Config.IsBounded, Config.IsSound, Measure.stripe_of};
+ghost use Rattle.mc_item.specs.{Command.key_of, Measure.stripe_of};
 ghost use Rattle.mc_item.specs.declared.class_event.ClassEvent.TheVariants as class_events;
 ghost use Rattle.mc_item.specs.declared.item.Who.{Who};
 ghost use Rattle.mc_pull.specs.Attempt.{IsNoted, IsReady};

@@ -1,5 +1,5 @@
 //! What a closed store has.
-ghost use Rattle.std.specs.Prelude.{◌≡◌, ◌≤◌, ◌<◌, length};
+ghost use Rattle.std.specs.Prelude.{◌≡◌, ◌<◌, length};
 
 use super::opening::Shape;
 use mc_history::History;

@@ -1,6 +1,5 @@
 //! Stores for the tests: what they are opened with, by a name that the caller picks.
-ghost use Rattle.std.specs.Prelude.{◌≡◌, IfOk, length};
-ghost use Rattle.mc_item.specs.Config.{IsBounded, IsSound};
+ghost use Rattle.std.specs.Prelude.{◌≡◌, length};
 ghost use Rattle.mc_store.specs.Opening.{AreParts};
 
 use mc_item::{Config, Numbers};

@@ -1,5 +1,5 @@
 //! Scripts on shared stores: rows of what callers ask and look at, one after another.
-ghost use Rattle.std.specs.Prelude.{◌≡◌, ◌≤◌, ◌<◌, length};
+ghost use Rattle.std.specs.Prelude.{◌≡◌, ◌<◌, length};
 ghost use Rattle.mc_store.specs.Opening.{AreParts};
 
 use super::asking::{self, Ask, command_of, text_of_figures, text_of_reply, text_of_value};
