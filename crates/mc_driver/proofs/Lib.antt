@@ -1,6 +1,7 @@
 pub mod StandingCallLemmas
 pub mod EnteredCallLemmas
 pub mod SeenByCallLemmas
+pub mod CutCallLemmas
 pub mod SharedCallLemmas
 pub mod CalledEventLemmas
 pub mod LeftEventLemmas

@@ -1,5 +1,5 @@
 -- What a run leaves: the closed store, and what the caller's pass has seen of it.
-use Rattle.std.proofs.Common.{◌≡◌, ◌<◌, ◌≤◌, ◌+◌, ◌-◌, ℕ, suc, List, Option, Some, length, option_map, slice_get, sym, ap, ◌∙◌, subst, arith, inl, inr}
+use Rattle.std.proofs.Common.{◌≡◌, ◌<◌, ◌≤◌, ◌+◌, ◌-◌, ℕ, suc, List, Option, Some, length, option_map, slice_get, refl, sym, ap, ◌∙◌, subst, arith, inl, inr}
 use Rattle.std.proofs.lemmas.{Bool.cases_lt, Option.slice_get-map}
 use mathlib.Core.List.{IsPrefix}
 use Rattle.mc_item.specs.declared.{answer.Site.Site, class_event.ClassEvent.ClassEvent, config.Config.Config, event.Event.Event, event.Event.TheVariants.Class}
@@ -16,9 +16,9 @@ use Rattle.mc_store.specs.{Locked.class_lock, Locked.setting_of, Passes.PassView
 use Rattle.mc_store.specs.{Sides.stripe_told}
 use Rattle.mc_store.proofs.{NumberOrderLemmas.get_some, SyncedStepLemmas.map_length}
 use Rattle.mc_driver.specs.{Called.AreCalledBy, Called.AreItsCalls, Called.IsCompared, Caller.AreNoted, Caller.EntersOnly, Caller.histories_seen, Caller.places_in, Run.HasFull, Run.IsStore}
-use Rattle.mc_driver.specs.{Run.histories_left, Stand.Grow, Stand.MakesOnly, Stand.calls_at, Stand.nothing_seen}
+use Rattle.mc_driver.specs.{Run.histories_left, Stand.StandsLast, Stand.Grow, Stand.MakesOnly, Stand.calls_at, Stand.nothing_seen}
 use Rattle.mc_driver.proofs.{NotedPlaceLemmas.at_later, NotedPlaceLemmas.called_place, NotedPlaceLemmas.class_begins, NotedPlaceLemmas.stripe_begins, OnlyCallsLemmas.only_these}
-use Rattle.mc_driver.proofs.{EnteredCallLemmas.some_at, LeftEventLemmas.called_by, LeftEventLemmas.in_class, LeftEventLemmas.in_stripe, StandingCallLemmas.stand_by, StandingCallLemmas.stand_later}
+use Rattle.mc_driver.proofs.{EnteredCallLemmas.some_at, LeftEventLemmas.called_by, LeftEventLemmas.in_class, LeftEventLemmas.in_stripe, StandingCallLemmas.stand_last_by, StandingCallLemmas.stand_last_later, StandingCallLemmas.stand_by}
 
 -- a site by its parts
 site_is : (s : Site) (stripe stripes : ℕ) (sizes : List ℕ) → s.stripe ≡ stripe → s.stripes ≡ stripes → s.sizes ≡ sizes → s ≡ record { stripe = stripe; stripes = stripes; sizes = sizes }
@@ -130,12 +130,18 @@ module _ (config : Config) (final : FinalView) (all : AreStripes final.board con
             let same : Some e.0 ≡ Some event = sym (get_longer (list_at sight.seen lock) all place e.0 begins e.1) ∙ there in
             subst Fits (cc same) e.2 by
 
+    abbrev next : List Exchange → Who
+    next calls = record { caller = pass.caller; turn = length calls }
+
     -- the calls that the pass has noted stand in it, and of the caller there are only these
     pub left_calls : (calls : List Exchange) (begun : Option Begun) → AreNoted config pass calls begun → AreItsCalls config pass.caller (histories_left final) calls begun
     left_calls calls begun noted = record {
-      stand = stand_by (EntersOnly pass) (MakesOnly config (histories_left final)) config nothing_seen (histories_left final) calls
+      stand = stand_by (EntersOnly pass) (MakesOnly config (histories_left final)) config nothing_seen calls (StandsLast (EntersOnly pass) config (histories_seen config sight) (next calls) begun)
+          (StandsLast (MakesOnly config (histories_left final)) config (histories_left final) (next calls) begun)
           (λ k call at Suits. makes_only call.who (ap (λ (w : Who). w.caller) (noted.own.each k call at)) Suits)
-          (stand_later (EntersOnly pass) config nothing_seen (histories_seen config sight) (histories_left final) calls left_grows noted.stand);
+          (λ reached end. stand_last_by (EntersOnly pass) (MakesOnly config (histories_left final)) config (histories_left final) (next calls) begun (makes_only (next calls) refl) reached
+          (stand_last_later (EntersOnly pass) config (histories_seen config sight) (histories_left final) (next calls) begun left_grows reached end))
+          noted.stand;
       only = record {
         at = λ number below.
             let at = at_later _ (stripe_histories final.stripes number) pass.caller _ _ (left_grows.stripes number below) (noted.at number below) in

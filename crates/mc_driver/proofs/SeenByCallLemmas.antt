@@ -32,7 +32,7 @@ seen_grow config old new grows = record {
 }
 
 -- what led up to a command on a stripe did so on that of its number, with its history
-led_up_there : (config : Config) (number : ℕ) (who : Who) (command : Command) (moment : ℕ) (s : Stripe) (made : List StripeEvent) → s.site ≡ site_in (setting_of config) number
+pub led_up_there : (config : Config) (number : ℕ) (who : Who) (command : Command) (moment : ℕ) (s : Stripe) (made : List StripeEvent) → s.site ≡ site_in (setting_of config) number
     → LeadsUp config who command moment s made → LeadsUp config who command moment (stripe_with config number s.history) made
 led_up_there config number who command moment s made site led = record {
   walked = led.walked;
@@ -41,7 +41,7 @@ led_up_there config number who command moment s made site led = record {
 }
 
 -- a search for a chunk that a pass has seen stands in what it has seen
-search_there : (config : Config) (need : Need) (who : Who) (moment : ℕ) (sight : Sight) (stretch : Stretch) → IsSearchFor config need who moment sight stretch
+pub search_there : (config : Config) (need : Need) (who : Who) (moment : ℕ) (sight : Sight) (stretch : Stretch) → IsSearchFor config need who moment sight stretch
     → NotesSearchFor config need (classes_seen config.stripes (list_at sight.seen)) who moment stretch
 search_there config need who moment sight stretch (inl none) = inl none
 search_there config need who moment sight stretch (inr some) =

@@ -10,23 +10,26 @@ use Rattle.mc_item.specs.declared.fault.Fault.TheVariants.{HistoryFull}
 use Rattle.mc_item.specs.declared.stripe_event.StripeEvent.TheVariants as events
 use Rattle.mc_board.specs.Histories.{Grows, list_at}
 use Rattle.mc_board.proofs.PrefixLemmas.{prefix_length}
-use Rattle.mc_evidence.specs.{Seen.stripe_events, Setting.IsClass}
+use Rattle.mc_item.specs.{Command.key_of, Stripe.cache_of}
+use Rattle.mc_evidence.specs.{Seen.stripe_events, Setting.IsClass, Setting.site_in}
+use Rattle.mc_rule.proofs.HistoryLemmas.{legal_at}
 use Rattle.mc_evidence.proofs.SeenLemmas.{stripe_events-map}
 use Rattle.mc_segment.specs.ClassCalls.{limited_event}
 use Rattle.mc_proto.specs.Answers.{Answer, Counted, Limited, Moved, Replied}
 use Rattle.mc_script.specs.{Calls.AddsCalls, Calls.AddsUp, Calls.BreaksOff, Calls.GoesOn, Calls.MakesCalls, Exchanges.Asks, Exchanges.Begun, Exchanges.Crawls, Exchanges.Exchange}
-use Rattle.mc_script.specs.Exchanges.{IsOfKind, Juggles, Limits, ScriptCall, exchange}
+use Rattle.mc_script.specs.Exchanges.{IsOfKind, IsReplyTo, Juggles, Limits, ScriptCall, exchange}
 use Rattle.mc_store.specs.Callers.{answered_at, asked_for, crawling_of, juggling_of, limits_of, turns_of}
 use Rattle.mc_store.specs.{Accounts.Enters, Accounts.IsOfWalk, Calls.IsJuggledBy, Calls.HasGained, Calls.IsRepliedBy, Crawls.IsCrawledBy, Crawls.IsCrawledTill, Locked.class_lock}
 use Rattle.mc_store.specs.{Locked.setting_of, Passes.PassView, Passes.next_who}
 use Rattle.mc_driver.specs.{Called.AreInTurn, Called.call_event_of}
 use Rattle.mc_driver.specs.Caller.{AreAt, AreNoted, AreRising, EntersOnly, IsAt, IsBefore, MayCall, histories_seen, places_in, view_of}
-use Rattle.mc_driver.specs.Stand.{Stand, StandsBetween, calls_at, is_command_at, nothing_seen, stripe_number}
+use Rattle.mc_driver.specs.Stand.{BreaksOffAfter, Grow, StandFrom, StandsBetween, calls_at, is_command_at, nothing_seen, stripe_number}
 use Rattle.mc_driver.proofs.NotedPlaceLemmas.{at_later, at_push_if, get_next, places_in-push, rising_push_if, stripe_begins, places_in-call}
 use Rattle.mc_driver.proofs.SeenByCallLemmas.{crawled_between, juggled_between, limited_between, replied_between, seen_grow}
 use Rattle.mc_driver.proofs.EnteredCallLemmas.{Gains, before_more, entered_still, gains, gains_none}
 use Rattle.mc_driver.proofs.CalledEventLemmas.{Fails, call_event_of-turn, event_for, turns_for-length, in_turn_more, may_again, replied_turns, turns_begun, turns_more, turns_of-call}
-use Rattle.mc_driver.proofs.{OnlyCallsLemmas.is_same, StandingCallLemmas.stand_by, StandingCallLemmas.stand_later, StandingCallLemmas.stand_more}
+use Rattle.mc_driver.proofs.{CutCallLemmas.command_broke, OnlyCallsLemmas.is_same, StandingCallLemmas.breaks_after, StandingCallLemmas.grow_self, StandingCallLemmas.stand_by}
+use Rattle.mc_driver.proofs.StandingCallLemmas.{stand_rest, stand_more}
 
 -- where a reply was noted, and what stands there
 module _ (config : Config) (old new : PassView) (command : Command) (moment : ℕ) (reply : Reply)
@@ -97,9 +100,31 @@ module _ (config : Config) (old new : PassView) (command : Command) (moment : �
         (rising_push_if (nat_eq number n) (stripe_events (list_at old.sight.seen n)) old.caller _ _ place (noted.at n below) (noted.rising n below)
         (λ passed. subst (λ (k : ℕ). length (stripe_events (list_at old.sight.seen k)) ≤ place) (is_same number n passed) behind))
 
--- how a call that went wrong leaves its caller's history: as it was, or with the call in it
-abbrev IsCut : PassView → PassView → CallEvent → Type 0
-IsCut old new made = (new ≡ old) ⊎ (new.calls ≡ old.calls ++ made ∷ [])
+-- a reply that stands in a legal history is one of the table's
+reply_fits : (config : Config) (old new : PassView) (command : Command) (moment : ℕ) (reply : Reply) → IsRepliedBy config (stripe_number config.stripes command) old new command moment reply
+    → IsReplyTo command reply
+reply_fits config old new command moment reply by =
+    let answered = by.replied.answered in
+    let site = site_in (setting_of config) (stripe_number config.stripes command) in
+    let before = by.old.history ++ answered.before in
+    let cache = cache_of site before in
+    let did = events.Did (record { who = next_who old; command = command; moment = moment; reply = answered.reply; room = answered.room }) in
+    let may = legal_at site by.new.history before did by.grew.sound.legal (record { later = []; is = answered.history_is }) in
+    record {
+      site = site;
+      versions = cache.versions;
+      found = cache.items (key_of command);
+      moment = moment;
+      room = answered.room;
+      reply_is = sym by.replied.reply_is ∙ may.reply;
+    }
+
+-- how a call that went wrong leaves what its pass knows: as it was, or with the call in its caller's history, and its beginning in
+-- what was seen
+abbrev pub IsCut : Config → PassView → PassView → ScriptCall → ℕ → Type 0
+IsCut config old new made moment =
+    (new ≡ old) ⊎ ((new.calls ≡ old.calls ++ call_event_of made moment ∷ [])
+    × (IsBefore old.turn old.made → BreaksOffAfter (EntersOnly new) config (histories_seen config old.sight) (histories_seen config new.sight) (next_who old) (record { call = made; moment = moment })))
 
 module _ (config : Config) (old new : PassView) (same : new.caller ≡ old.caller) (grows : Grows old.sight new.sight) (may : MayCall config old) (gained : Gains old.turn old.made new.made) where
   earlier : (calls : List Exchange) → AreNoted config old calls None → IsBefore old.turn old.made
@@ -112,13 +137,16 @@ module _ (config : Config) (old new : PassView) (same : new.caller ≡ old.calle
       subst (λ (n : ℕ). IsBefore n new.made) count (before_more old.turn old.made new.made (earlier calls noted) gained)
 
   -- the calls so far stand as they did: their events are known by the account, which has no other of them
-  stand_still : (calls : List Exchange) → AreNoted config old calls None → Stand (EntersOnly new) config nothing_seen (histories_seen config old.sight) calls
-  stand_still calls noted = stand_by (EntersOnly old) (EntersOnly new) config nothing_seen (histories_seen config old.sight) calls
+  stand_still : (calls : List Exchange) → AreNoted config old calls None
+      → StandFrom (EntersOnly new) config nothing_seen calls (λ reached. Grow config reached (histories_seen config old.sight))
+  stand_still calls noted = stand_by (EntersOnly old) (EntersOnly new) config nothing_seen calls (λ reached. Grow config reached (histories_seen config old.sight))
+      (λ reached. Grow config reached (histories_seen config old.sight))
       (λ k call at Suits.
       let within : k < length calls = slice_get_within calls k call at in
       let turn : call.who.turn ≡ k = ap (λ (w : Who). w.turn) (noted.own.each k call at) in
       let below : call.who.turn < old.turn = omega (arith, turn, within, may.turns, ap length noted.turns, turns_for-length calls) in
       entered_still old new gained call.who Suits below grows)
+      (λ reached grown. grown)
       noted.stand
 
   -- a reply is noted
@@ -179,25 +207,37 @@ module _ (config : Config) (old new : PassView) (same : new.caller ≡ old.calle
         };
       }
 
+  abbrev next_of : List Exchange → Who
+  next_of calls = record { caller = new.caller; turn = length calls }
+
+  next_is : (calls : List Exchange) → AreNoted config old calls None → next_who old ≡ next_of calls
+  next_is calls noted =
+      let turn : old.turn ≡ length calls = omega (arith, may.turns, ap length noted.turns, turns_for-length calls) in
+      ap (λ (n : ℕ). record { caller = old.caller; turn = n }) turn ∙ ap (λ (k : ℕ). record { caller = k; turn = length calls }) (sym same)
+
   -- a call that went wrong is the last one begun, unless nothing happened
-  breaks_off : (made : ScriptCall) (moment : ℕ) → IsCut old new (call_event_of made moment) → BreaksOff made moment (view_of config old) (view_of config new)
+  breaks_off : (made : ScriptCall) (moment : ℕ) → IsCut config old new made moment → BreaksOff made moment (view_of config old) (view_of config new)
   breaks_off made moment (inl is) = record { at = λ calls noted. (None, tt, subst (λ (p : PassView). AreNoted config p calls None) (sym is) noted) }
   breaks_off made moment (inr more) =
       let begun : Begun = record { call = made; moment = moment } in
       let event = call_event_of made moment in
       let turn = call_event_of-turn made moment in
+      let seen = histories_seen config old.sight in
+      let now = histories_seen config new.sight in
       record {
         at = λ calls noted. (
           Some begun,
           (refl, refl),
           record {
-            stand = stand_later (EntersOnly new) config nothing_seen (histories_seen config old.sight) (histories_seen config new.sight) calls (seen_grow config old.sight new.sight grows)
+            stand = stand_rest (EntersOnly new) config nothing_seen calls (λ reached. Grow config reached seen) (λ reached. BreaksOffAfter (EntersOnly new) config reached now (next_of calls) begun)
+                (λ reached grown. subst (λ (w : Who). BreaksOffAfter (EntersOnly new) config reached now w begun) (next_is calls noted)
+                (breaks_after (EntersOnly new) config reached seen now now (next_who old) begun grown (grow_self config now) (more.1 (earlier calls noted))))
                 (stand_still calls noted);
-            at = λ n below. kept_at event turn more calls noted n below;
-            rising = λ n below. kept_rising event turn more calls noted n below;
+            at = λ n below. kept_at event turn more.0 calls noted n below;
+            rising = λ n below. kept_rising event turn more.0 calls noted n below;
             own = subst (λ (k : ℕ). AreInTurn k calls) (sym same) noted.own;
-            turns = turns_begun old.calls new.calls calls begun more noted.turns;
-            before = before_next calls noted event (ap turns_of more ∙ turns_of-call old.calls event turn);
+            turns = turns_begun old.calls new.calls calls begun more.0 noted.turns;
+            before = before_next calls noted event (ap turns_of more.0 ∙ turns_of-call old.calls event turn);
           },
         );
       }
@@ -212,7 +252,7 @@ module _ (config : Config) (old new : PassView) (same : new.caller ≡ old.calle
   pub replied_ok : (command : Command) (moment : ℕ) (r : Result Reply Fault) → OnOk r (new.turn ≡ old.turn + 1)
       → IfOk r (IsRepliedBy config (stripe_number config.stripes command) old new command moment)
       → IfOk r (λ reply. MakesCalls (Asks command ∷ []) (Replied reply ∷ []) moment (view_of config old) (view_of config new))
-  replied_ok command moment (Ok reply) turn by = made_one _ _ moment tt turn (replied_adds command moment reply by)
+  replied_ok command moment (Ok reply) turn by = made_one _ _ moment (reply_fits config old new command moment reply by) turn (replied_adds command moment reply by)
   replied_ok command moment (Err fault) turn by = tt
 
   -- juggling is noted where it was done
@@ -242,7 +282,7 @@ module _ (config : Config) (old new : PassView) (same : new.caller ≡ old.calle
   limited_ok class chunks moment (Err fault) turn is more account by = tt
 
   -- and what went wrong breaks off
-  pub call_failed : {T : Type 0} (made : ScriptCall) (moment : ℕ) (r : Result T Fault) → OnErr r (IsCut old new (call_event_of made moment))
+  pub call_failed : {T : Type 0} (made : ScriptCall) (moment : ℕ) (r : Result T Fault) → OnErr r (IsCut config old new made moment)
       → OnErr r (BreaksOff made moment (view_of config old) (view_of config new))
   call_failed made moment (Ok x) cut = tt
   call_failed made moment (Err fault) cut = breaks_off made moment cut
@@ -264,6 +304,13 @@ crawl_gains config class old new moment (Err fault) by cut = ⊎_elim
     (λ same. gains_none old.turn old.made new.made (ap (λ (p : PassView). p.made) same))
     (λ till. gains _ old new till.account)
     cut
+
+-- a command that failed was broken off, if it was begun
+pub command_cut : (config : Config) (old new : PassView) (command : Command) (moment : ℕ) (r : Result Reply Fault) → MayCall config old → Grows old.sight new.sight
+    → IfErr r (Fails config (stripe_number config.stripes command) old new command moment) → OnErr r (IsCut config old new (Asks command) moment)
+command_cut config old new command moment (Ok reply) may grows fails = tt
+command_cut config old new command moment (Err fault) may grows fails =
+    ⊎_elim (λ early. inl early.0) (λ cut. inr (cut.noted, λ before. command_broke config old new command moment fault may.some grows before cut)) fails
 
 -- a call leaves its caller, which may call again after it
 pub goes_on : {T : Type 0} (config : Config) (old new : PassView) (r : Result T Fault) → MayCall config old → new.caller ≡ old.caller → new.turn ≡ length (turns_of new.calls)

@@ -1,5 +1,5 @@
--- Calls that stand in histories go on standing where these grow, and after less that was seen.
-use Rattle.std.proofs.Common.{◌≡◌, ℕ, zero, suc, List, [], ◌∷◌, ◌++◌, Some, sym, ap, ◌∙◌, append_assoc, subst, refl, inl, inr}
+-- Calls that stand in histories, or broke off in them, go on doing so where these grow, and after less that was seen.
+use Rattle.std.proofs.Common.{◌≡◌, ℕ, zero, suc, List, [], ◌∷◌, ◌++◌, Option, None, Some, sym, ap, ◌∙◌, append_assoc, subst, refl, inl, inr}
 use Rattle.std.specs.List.{slice_get}
 use mathlib.Core.List.{IsPrefix}
 use Rattle.mc_item.specs.declared.{class_event.ClassEvent.ClassEvent, command.Command.Command, config.Config.Config, counts.Histogram.Histogram}
@@ -9,18 +9,19 @@ use Rattle.mc_board.proofs.PrefixLemmas.{prefix_nil, prefix_self, prefix_trans}
 use Rattle.mc_evidence.specs.{Refusals.WasTried, Setting.IsClass, Setting.site_in}
 use Rattle.mc_evidence.proofs.EvidenceGrowthLemmas.{tried_later}
 use Rattle.mc_proto.specs.Answers.{Answer, Counted, Limited, Moved, Replied}
-use Rattle.mc_script.specs.Exchanges.{Asks, Crawls, Exchange, Juggles, Limits, ScriptCall}
+use Rattle.mc_script.specs.Exchanges.{Asks, Begun, Crawls, Exchange, Juggles, Limits, ScriptCall}
 use Rattle.mc_segment.specs.ClassCalls.{limited_event, refused_event}
 use Rattle.mc_store.specs.{Accounts.Stretch, Crawls.HasReclaims, Earned.IsLastResort, Locked.setting_of, Sides.class_told}
 use Rattle.mc_stripe.specs.Plan.{visible_row}
+use Rattle.mc_driver.specs.Cut.{NotesCommandCut, NotesCrawlingCut, NotesJugglingCut, NotesSearchUpTo}
 use Rattle.mc_driver.specs.Noted.{NotesCommand, NotesCrawling, NotesJuggling, NotesLimit, answered_command, answered_event, stripe_with}
 use Rattle.mc_driver.specs.Searched.{NotesSearchFor}
-use Rattle.mc_driver.specs.Stand.{Grow, Histories, IsPlaced, Stand, StandsAs, StandsBehind, StandsBetween, nothing_seen, stripe_number}
+use Rattle.mc_driver.specs.Stand.{BreaksOffAfter, BreaksOffAs, StandsLast, Grow, Histories, IsPlaced, StandFrom, StandsAs, StandsBehind, StandsBetween, nothing_seen, stripe_number}
 
 -- ---- histories that grow
 
 -- histories are a beginning of themselves
-grow_self : (config : Config) (histories : Histories) → Grow config histories histories
+pub grow_self : (config : Config) (histories : Histories) → Grow config histories histories
 grow_self config histories = record { stripes = λ number below. prefix_self (histories.stripes number); classes = λ class is. prefix_self (histories.classes class) }
 
 -- a beginning of a beginning is one
@@ -161,6 +162,71 @@ limit_on less seen history longer who chunks begins more noted = record {
   split = sym more.1 ∙ (ap (λ (h : List ClassEvent). h ++ more.0) noted.split ∙ append_assoc noted.before (limited_event who chunks ∷ noted.behind) more.0);
 }
 
+-- ---- the same of calls that broke off
+
+search_up_to_on : (config : Config) (need : Need) (classes classes_new : ClassNo → List ClassEvent) (who : Who) (moment : ℕ) (stretch : Stretch)
+    → ((class : ClassNo) → IsClass (setting_of config) class → IsPrefix (classes class) (classes_new class)) → NotesSearchUpTo config need classes who moment stretch
+    → NotesSearchUpTo config need classes_new who moment stretch
+search_up_to_on config need classes classes_new who moment stretch grow (inl one) = inl (search_on config need classes classes_new who moment stretch grow one)
+search_up_to_on config need classes classes_new who moment stretch grow (inr cut) = inr (
+  cut.0,
+  cut.1,
+  λ is.
+      let noted = cut.2 is in
+      record {
+        before = noted.before;
+        searched = noted.searched;
+        broken = noted.broken;
+        from_is = noted.from_is;
+        until_is = noted.until_is;
+        begins = prefix_trans noted.searched (classes cut.0) (classes_new cut.0) noted.begins (grow cut.0 is);
+      },
+)
+
+command_cut_on : (config : Config) (number : ℕ) (less seen history longer : List StripeEvent) (classes classes_new : ClassNo → List ClassEvent) (who : Who) (command : Command) (moment : ℕ) → IsPrefix less seen
+    → IsPrefix history longer → ((class : ClassNo) → IsClass (setting_of config) class → IsPrefix (classes class) (classes_new class))
+    → NotesCommandCut config number seen history classes who command moment → NotesCommandCut config number less longer classes_new who command moment
+command_cut_on config number less seen history longer classes classes_new who command moment begins more grow noted = record {
+  older = noted.older;
+  made = noted.made;
+  behind = noted.behind ++ more.0;
+  past = prefix_trans less seen noted.older begins noted.past;
+  first = noted.first;
+  led_up = noted.led_up;
+  split = sym more.1 ∙ (ap (λ (h : List StripeEvent). h ++ more.0) noted.split ∙ append_assoc (noted.older ++ noted.made) noted.behind more.0);
+  stretch = noted.stretch;
+  search = search_up_to_on config (visible_row (stripe_with config number noted.older) command moment).need classes classes_new who moment noted.stretch grow noted.search;
+}
+
+juggling_cut_on : (config : Config) (less seen history longer : List ClassEvent) (who : Who) (class : ClassNo) (moment : ℕ) → IsPrefix less seen → IsPrefix history longer
+    → NotesJugglingCut config seen history who class moment → NotesJugglingCut config less longer who class moment
+juggling_cut_on config less seen history longer who class moment begins more noted = record {
+  before = noted.before;
+  past = prefix_trans less seen noted.before begins noted.past;
+  first = noted.first;
+  hits = noted.hits;
+  few = noted.few;
+  advanced = noted.advanced;
+  moved = noted.moved;
+  after = noted.after;
+  cut = noted.cut;
+  begins = prefix_trans noted.after history longer noted.begins more;
+}
+
+crawling_cut_on : (config : Config) (less seen history longer : List ClassEvent) (who : Who) (class : ClassNo) (moment : ℕ) → IsPrefix less seen → IsPrefix history longer
+    → NotesCrawlingCut config seen history who class moment → NotesCrawlingCut config less longer who class moment
+crawling_cut_on config less seen history longer who class moment begins more noted = record {
+  at = noted.at;
+  past = prefix_trans less seen noted.at begins noted.past;
+  links = noted.links;
+  some = noted.some;
+  stretches = noted.stretches;
+  histogram = noted.histogram;
+  end = noted.end;
+  counted = noted.counted;
+  begins = prefix_trans noted.end history longer noted.begins more;
+}
+
 module _ (makes : Who → ((lock place : ℕ) → Event → Type 0) → Type 0) where
   -- a call that stands goes on standing where histories grow, after less that was seen
   stands_on : (config : Config) (less seen old new : Histories) (who : Who) (moment : ℕ) (call : ScriptCall) (answer : Answer) → Grow config less seen → Grow config old new → IsPlaced config call
@@ -188,27 +254,28 @@ module _ (makes : Who → ((lock place : ℕ) → Event → Type 0) → Type 0) 
     evidence = between.evidence;
   }
 
-  -- calls that stand in turn go on doing so where histories grow
-  pub stand_later : (config : Config) (seen old new : Histories) (calls : List Exchange) → Grow config old new → Stand makes config seen old calls → Stand makes config seen new calls
-  stand_later config seen old new [] grow stand = grow_trans config seen old new stand grow
-  stand_later config seen old new (call ∷ calls) grow stand =
-      record { reached = stand.reached; between = stand.between; behind = stand_later config stand.reached old new calls grow stand.behind }
+  -- of what calls have reached that stand in turn, what follows holds too
+  pub stand_rest : (config : Config) (seen : Histories) (calls : List Exchange) (end end' : Histories → Type 0) → ((reached : Histories) → end reached → end' reached)
+      → StandFrom makes config seen calls end → StandFrom makes config seen calls end'
+  stand_rest config seen [] end end' follows stand = follows seen stand
+  stand_rest config seen (call ∷ calls) end end' follows stand =
+      record { reached = stand.reached; between = stand.between; behind = stand_rest config stand.reached calls end end' follows stand.behind }
 
   -- one call more at the end, from the histories that the others stand in to those that it has reached
-  pub stand_more : (config : Config) (seen old new : Histories) (calls : List Exchange) (call : Exchange) → Stand makes config seen old calls → StandsBetween makes config old new call
-      → Stand makes config seen new (calls ++ call ∷ [])
+  pub stand_more : (config : Config) (seen old new : Histories) (calls : List Exchange) (call : Exchange) → StandFrom makes config seen calls (λ reached. Grow config reached old)
+      → StandsBetween makes config old new call → StandFrom makes config seen (calls ++ call ∷ []) (λ reached. Grow config reached new)
   stand_more config seen old new [] call stand between = record { reached = new; between = between_less config seen old new call stand between; behind = grow_self config new }
   stand_more config seen old new (first ∷ calls) call stand between =
       record { reached = stand.reached; between = stand.between; behind = stand_more config stand.reached old new calls call stand.behind between }
 
   -- histories in which calls stand begin with what was seen before these
-  stand_grows : (config : Config) (seen histories : Histories) (calls : List Exchange) → Stand makes config seen histories calls → Grow config seen histories
+  stand_grows : (config : Config) (seen histories : Histories) (calls : List Exchange) → StandFrom makes config seen calls (λ reached. Grow config reached histories) → Grow config seen histories
   stand_grows config seen histories [] stand = stand
   stand_grows config seen histories (call ∷ calls) stand = grow_trans config seen stand.reached histories stand.between.grew (stand_grows config stand.reached histories calls stand.behind)
 
   -- each of the calls that stand in turn stands there
-  pub stand_at : (config : Config) (seen histories : Histories) (calls : List Exchange) (turn : ℕ) (call : Exchange) → Stand makes config seen histories calls → slice_get calls turn ≡ Some call
-      → StandsBehind makes config nothing_seen histories call
+  pub stand_at : (config : Config) (seen histories : Histories) (calls : List Exchange) (turn : ℕ) (call : Exchange) → StandFrom makes config seen calls (λ reached. Grow config reached histories)
+      → slice_get calls turn ≡ Some call → StandsBehind makes config nothing_seen histories call
   stand_at config seen histories [] turn call stand at = absurd (cc at)
   stand_at config seen histories (first ∷ calls) zero call stand at =
       let same : first ≡ call = cc in
@@ -217,6 +284,35 @@ module _ (makes : Who → ((lock place : ℕ) → Event → Type 0) → Type 0) 
       (stands_on config nothing_seen seen stand.reached histories first.who first.moment first.call first.answer (grow_nothing config seen)
       (stand_grows config stand.reached histories calls stand.behind) between.placed between.stands)
   stand_at config seen histories (first ∷ calls) (suc turn) call stand at = stand_at config stand.reached histories calls turn call stand.behind at
+
+  -- ---- the call that broke off
+
+  breaks_on : (config : Config) (less seen old new : Histories) (who : Who) (moment : ℕ) (call : ScriptCall) → Grow config less seen → Grow config old new → IsPlaced config call
+      → BreaksOffAs makes config seen old who moment call → BreaksOffAs makes config less new who moment call
+  unfolding command_cut_on juggling_cut_on crawling_cut_on
+  breaks_on config less seen old new who moment (Asks command) begins grow placed left =
+      let number = stripe_number config.stripes command in
+      (command_cut_on config number _ _ _ _ old.classes new.classes who command moment (begins.stripes number placed) (grow.stripes number placed) grow.classes left.0, left.1)
+  breaks_on config less seen old new who moment (Juggles class) begins grow placed left =
+      (juggling_cut_on config _ _ _ _ who class moment (begins.classes class placed) (grow.classes class placed) left.0, left.1)
+  breaks_on config less seen old new who moment (Crawls class) begins grow placed left =
+      (crawling_cut_on config _ _ _ _ who class moment (begins.classes class placed) (grow.classes class placed) left.0, left.1)
+  breaks_on config less seen old new who moment (Limits class n) begins grow placed left = left
+
+  -- it broke off after less that was seen, too, in histories that grow
+  pub breaks_after : (config : Config) (less seen old new : Histories) (who : Who) (begun : Begun) → Grow config less seen → Grow config old new → BreaksOffAfter makes config seen old who begun
+      → BreaksOffAfter makes config less new who begun
+  breaks_after config less seen old new who begun begins grow broke = record {
+    grew = grow_trans config less seen new begins (grow_trans config seen old new broke.grew grow);
+    placed = broke.placed;
+    left = breaks_on config less seen old new who begun.moment begun.call begins grow broke.placed broke.left;
+  }
+
+  -- what histories have after the answered calls, longer ones have
+  pub stand_last_later : (config : Config) (old new : Histories) (who : Who) (begun : Option Begun) → Grow config old new → (reached : Histories) → StandsLast makes config old who begun reached
+      → StandsLast makes config new who begun reached
+  stand_last_later config old new who None grow reached end = grow_trans config reached old new end grow
+  stand_last_later config old new who (Some begun) grow reached end = breaks_after config reached reached old new who begun (grow_self config reached) grow end
 
 module _ (makes makes' : Who → ((lock place : ℕ) → Event → Type 0) → Type 0) where
   -- what is known of a call's events may be said by another fact that follows
@@ -229,12 +325,12 @@ module _ (makes makes' : Who → ((lock place : ℕ) → Event → Type 0) → T
   stands_by config seen histories who moment (Limits class n) Limited follows stands = (stands.0, follows _ stands.1)
   stands_by config seen histories who moment call answer follows stands = absurd stands
 
-  -- and so of each call in turn
-  pub stand_by : (config : Config) (seen histories : Histories) (calls : List Exchange)
+  -- and so of each call in turn, with what holds at the end
+  pub stand_by : (config : Config) (seen : Histories) (calls : List Exchange) (end end' : Histories → Type 0)
       → ((k : ℕ) (call : Exchange) → slice_get calls k ≡ Some call → (Suits : (lock place : ℕ) → Event → Type 0) → makes call.who Suits → makes' call.who Suits)
-      → Stand makes config seen histories calls → Stand makes' config seen histories calls
-  stand_by config seen histories [] follows stand = stand
-  stand_by config seen histories (call ∷ calls) follows stand =
+      → ((reached : Histories) → end reached → end' reached) → StandFrom makes config seen calls end → StandFrom makes' config seen calls end'
+  stand_by config seen [] end end' follows at_end stand = at_end seen stand
+  stand_by config seen (call ∷ calls) end end' follows at_end stand =
       let between = stand.between in
       record {
         reached = stand.reached;
@@ -244,5 +340,19 @@ module _ (makes makes' : Who → ((lock place : ℕ) → Event → Type 0) → T
           stands = stands_by config seen stand.reached call.who call.moment call.call call.answer (λ Suits. follows 0 call refl Suits) between.stands;
           evidence = between.evidence;
         };
-        behind = stand_by config stand.reached histories calls (λ k next at Suits. follows (suc k) next at Suits) stand.behind;
+        behind = stand_by config stand.reached calls end end' (λ k next at Suits. follows (suc k) next at Suits) at_end stand.behind;
       }
+
+  breaks_by : (config : Config) (seen histories : Histories) (who : Who) (moment : ℕ) (call : ScriptCall) → ((Suits : (lock place : ℕ) → Event → Type 0) → makes who Suits → makes' who Suits)
+      → BreaksOffAs makes config seen histories who moment call → BreaksOffAs makes' config seen histories who moment call
+  breaks_by config seen histories who moment (Asks command) follows left = (left.0, follows _ left.1)
+  breaks_by config seen histories who moment (Juggles class) follows left = (left.0, follows _ left.1)
+  breaks_by config seen histories who moment (Crawls class) follows left = (left.0, follows _ left.1)
+  breaks_by config seen histories who moment (Limits class n) follows left = follows _ left
+
+  -- and of the call that broke off
+  pub stand_last_by : (config : Config) (histories : Histories) (who : Who) (begun : Option Begun) → ((Suits : (lock place : ℕ) → Event → Type 0) → makes who Suits → makes' who Suits) → (reached : Histories)
+      → StandsLast makes config histories who begun reached → StandsLast makes' config histories who begun reached
+  stand_last_by config histories who None follows reached end = end
+  stand_last_by config histories who (Some begun) follows reached end =
+      record { grew = end.grew; placed = end.placed; left = breaks_by config reached histories who begun.moment begun.call follows end.left }

@@ -10,7 +10,7 @@ use Rattle.mc_board.specs.Accounts.{maker_of, who_of}
 use Rattle.mc_store.specs.Callers.{IsCalled, IsMomentOf, asked_for, crawling_of, juggling_of, limits_of, turns_of}
 use Rattle.mc_store.specs.{Locked.setting_of, Made.WasCalled, Passes.PassView}
 use Rattle.mc_store.specs.Finals.{AreItsOwn, AreItsOwnInClasses, FinalView, IsAccounted, IsBehindClasses, IsBehindStripes}
-use Rattle.mc_driver.specs.{Run.HasFull, Stand.AreOnly, Stand.Histories, Stand.MakesOnly, Stand.Stand, Stand.StandsAnywhere, Stand.nothing_seen}
+use Rattle.mc_driver.specs.{Run.HasFull, Stand.AreOnly, Stand.Histories, Stand.MakesOnly, Stand.Stand, Stand.StandsAnywhere}
 
 -- the event of a caller's history for this call at this moment; one that sets a limit has no moment
 abbrev pub call_event_of : ScriptCall → ℕ → CallEvent
@@ -54,11 +54,11 @@ pub record AreCalledBy (config : Config) (caller : ℕ) (histories : Histories) 
   pub called_in_classes : (class : ClassNo) (place : ℕ) (event : ClassEvent) → IsClass (setting_of config) class
       → slice_get (histories.classes class) place ≡ Some event → (maker_of event).caller ≡ caller → WasCalled calls class event
 
--- what is known of a caller's calls: the histories have them in turn, each with all its events, and the stripes have no other
--- commands of that caller. The caller's own history has just these calls, then the one that broke off if one did, and each of its
--- events belongs to one of these
+-- what is known of a caller's calls: the histories have them in turn, each with all its events, then the beginning of the one that
+-- broke off if one did, and the stripes have no other commands of that caller. The caller's own history has just these calls, and
+-- each of its events belongs to one of them
 pub record AreItsCalls (config : Config) (caller : ℕ) (histories : Histories) (calls : List Exchange) (begun : Option Begun) : Type 0 where
-  pub stand : Stand (MakesOnly config histories) config nothing_seen histories calls
+  pub stand : Stand (MakesOnly config histories) config histories caller calls begun
   pub only : AreOnly config.stripes caller histories calls
   pub history : List CallEvent
   pub just : turns_of history ≡ turns_for calls begun

@@ -9,7 +9,7 @@ use Rattle.mc_board.specs.{Accounts.IsEntered, Accounts.maker_in, Histories.list
 use Rattle.mc_evidence.specs.{Seen.classes_seen, Seen.stripes_seen, Setting.IsClass}
 use Rattle.mc_script.specs.{Calls.CallsView, Exchanges.Begun, Exchanges.Exchange}
 use Rattle.mc_store.specs.{Passes.PassView, Callers.turns_of, Locked.setting_of, Serving.HasSeenShort}
-use Rattle.mc_driver.specs.{Called.AreInTurn, Called.turns_for, Noted.exchange_of, Stand.Histories, Stand.Stand, Stand.calls_at, Stand.nothing_seen}
+use Rattle.mc_driver.specs.{Called.AreInTurn, Called.turns_for, Noted.exchange_of, Stand.Histories, Stand.Stand, Stand.calls_at}
 
 -- the histories of a store, as far as a token has seen them
 abbrev pub histories_seen : Config → Sight → Histories
@@ -53,10 +53,10 @@ pub record EntersOnly (pass : PassView) (who : Who) (Suits : (lock place : ℕ) 
 pub record IsBefore (turn : ℕ) (made : List Span) : Type 0 where
   pub each : (k : ℕ) (span : Span) → slice_get made k ≡ Some span → span.turn < turn
 
--- what a pass knows of its caller's calls: it has seen these in turn, each of this caller, with commands at just the places that the
--- caller's history has; that history has just these calls, then the one that broke off if one did; its account is of these turns
+-- what a pass knows of its caller's calls: it has seen these in turn, each of this caller, and then the one that broke off if one did,
+-- with commands at just the places that the caller's history has; that history has just these calls; its account is of these turns
 pub record AreNoted (config : Config) (pass : PassView) (calls : List Exchange) (begun : Option Begun) : Type 0 where
-  pub stand : Stand (EntersOnly pass) config nothing_seen (histories_seen config pass.sight) calls
+  pub stand : Stand (EntersOnly pass) config (histories_seen config pass.sight) pass.caller calls begun
   pub at : (number : ℕ) → number < config.stripes
       → AreAt (stripes_seen (list_at pass.sight.seen) number) pass.caller (places_in number pass.calls) (calls_at config.stripes number calls)
   pub rising : (number : ℕ) → number < config.stripes → AreRising 0 (places_in number pass.calls)

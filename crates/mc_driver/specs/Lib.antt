@@ -1,5 +1,6 @@
 pub mod Searched
 pub mod Noted
+pub mod Cut
 pub mod Stand
 pub mod Called
 pub mod Caller

@@ -1,5 +1,5 @@
 -- How the histories of a store note a call with its answer, after all that its caller had seen by then (own).
-use Rattle.std.specs.Prelude.{ℕ, ◌≡◌, ◌≤◌, ◌+◌, List, [], ◌∷◌, ◌++◌, length}
+use Rattle.std.specs.Prelude.{ℕ, ◌≡◌, ◌≤◌, List, [], ◌∷◌, ◌++◌, length}
 use Rattle.std.specs.List.{flat_map}
 use mathlib.Core.List.{IsPrefix}
 use Rattle.mc_item.specs.declared.{class_event.ClassEvent.ClassEvent, command.Command.Command, config.Config.Config, counts.Moves.Moves, item.ClassNo.ClassNo}
@@ -48,11 +48,11 @@ answered_event who command moment reply room = events.Did (answered_command who 
 abbrev pub stripe_with : Config → ℕ → List StripeEvent → Stripe
 stripe_with config number history = stripe (site_in (setting_of config) number) config.max_events config.keeps_events history 0
 
--- what an answered command may make: what its account may gain, and of its own stripe's events only these and the answer
-abbrev pub IsOfAnswer : Config → ℕ → Command → ℕ → (older made : List StripeEvent) → Stretch → (lock place : ℕ) → Event → Type 0
-IsOfAnswer config number command moment older made stretch lock place event =
+-- what a command may make: what its account may gain, and of its own stripe's events only those after older ones, up to this place
+abbrev pub IsOfPart : Config → ℕ → Command → ℕ → (older : List StripeEvent) → (until : ℕ) → Stretch → (lock place : ℕ) → Event → Type 0
+IsOfPart config number command moment older until stretch lock place event =
     IsOfCommand config (stripe_with config number older) command moment stretch lock place event
-    × (lock ≡ number → IsWithin (record { from = length older; until = length (older ++ made) + 1 }) place)
+    × (lock ≡ number → IsWithin (record { from = length older; until = until }) place)
 
 -- a stripe's history has this answered command after what was seen of it: older events, none of them of this call, then just what
 -- leads up to the command, then its answer. If that cites a refusal, the class's history has that one, by the same call, made not
@@ -75,7 +75,7 @@ pub record NotesCommand (config : Config) (number : ℕ) (seen history : List St
   pub search : NotesSearchFor config (visible_row (stripe_with config number older) command moment).need classes who moment stretch
 
 -- a class's history has a call's juggling with these moves, after what was seen of it, in one unbroken stretch: the moves of at most
--- 256 hits that the call had taken, then surveys and walks
+-- 256 hits, then surveys and walks
 pub record NotesJuggling (config : Config) (seen history : List ClassEvent) (who : Who) (class : ClassNo) (moment : ℕ) (moves : Moves) : Type 0 where
   pub before : List ClassEvent
   pub hits : List Hit

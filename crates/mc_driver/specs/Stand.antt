@@ -1,6 +1,6 @@
 -- A caller's calls in the histories of a store (own). Each is there after all that the caller had seen by then, with all events that
--- it made, and the stripes have no other commands of that caller.
-use Rattle.std.specs.Prelude.{ℕ, ◌≡◌, ◌<◌, ◌++◌, Bool, false, List, [], ◌∷◌, Some, length, nat_eq, slice_get}
+-- it made, and the stripes have no other commands of that caller. The last one may have broken off.
+use Rattle.std.specs.Prelude.{ℕ, ◌≡◌, ◌<◌, ◌+◌, ◌++◌, Bool, false, List, [], ◌∷◌, Option, Some, None, length, nat_eq, slice_get}
 use Rattle.std.specs.List.{filter}
 use mathlib.Core.List.{IsPrefix}
 use Rattle.mc_item.specs.{Command.key_of, Measure.stripe_of}
@@ -9,9 +9,10 @@ use Rattle.mc_item.specs.declared.{event.Event.Event, event.Event.TheVariants.Cl
 use Rattle.mc_board.specs.Accounts.{maker_of, who_of}
 use Rattle.mc_evidence.specs.{Locks.ClassKeeps, Locks.StripeKeeps, Setting.IsClass}
 use Rattle.mc_proto.specs.Answers.{Answer, Counted, Limited, Moved, Replied}
-use Rattle.mc_script.specs.Exchanges.{Asks, Crawls, Exchange, Juggles, Limits, ScriptCall}
+use Rattle.mc_script.specs.Exchanges.{Asks, Begun, Crawls, Exchange, Juggles, Limits, ScriptCall}
 use Rattle.mc_store.specs.{Accounts.IsOfStretch, Accounts.IsOfStretches, Locked.class_lock, Locked.setting_of}
-use Rattle.mc_driver.specs.Noted.{IsOfAnswer, NotesCommand, NotesCrawling, NotesJuggling, NotesLimit, exchanges_in}
+use Rattle.mc_driver.specs.Cut.{NotesCommandCut, NotesCrawlingCut, NotesJugglingCut}
+use Rattle.mc_driver.specs.Noted.{IsOfPart, NotesCommand, NotesCrawling, NotesJuggling, NotesLimit, exchanges_in}
 
 -- the histories of a store: of its stripes, numbered from 0, and of its slab classes, numbered from 1
 pub record Histories : Type 0 where
@@ -62,7 +63,7 @@ module _ (makes : Who → ((lock place : ℕ) → Event → Type 0) → Type 0) 
   StandsAs config seen histories who moment (Asks command) (Replied reply) =
       let number = stripe_number config.stripes command in
       (noted : NotesCommand config number (seen.stripes number) (histories.stripes number) histories.classes who command moment reply)
-      × makes who (IsOfAnswer config number command moment noted.older noted.made noted.stretch)
+      × makes who (IsOfPart config number command moment noted.older (length (noted.older ++ noted.made) + 1) noted.stretch)
   StandsAs config seen histories who moment (Juggles class) (Moved moves) =
       (noted : NotesJuggling config (seen.classes class) (histories.classes class) who class moment moves)
       × makes who (IsOfStretch config class (record { from = length noted.before; until = length ((noted.before ++ noted.advances) ++ noted.own) }))
@@ -86,16 +87,49 @@ module _ (makes : Who → ((lock place : ℕ) → Event → Type 0) → Type 0) 
     pub stands : StandsBehind config seen reached call
     pub evidence : HasEvidence config reached call.call
 
+  -- the histories have the beginning of this call after what was seen: of a command in its stripe's, of juggling and a crawl in their
+  -- class's. The call makes only events of that beginning, and one that sets a limit makes none
+  abbrev pub BreaksOffAs : Config → Histories → Histories → Who → ℕ → ScriptCall → Type 0
+  BreaksOffAs config seen histories who moment (Asks command) =
+      let number = stripe_number config.stripes command in
+      (noted : NotesCommandCut config number (seen.stripes number) (histories.stripes number) histories.classes who command moment)
+      × makes who (IsOfPart config number command moment noted.older (length (noted.older ++ noted.made)) noted.stretch)
+  BreaksOffAs config seen histories who moment (Juggles class) =
+      (noted : NotesJugglingCut config (seen.classes class) (histories.classes class) who class moment)
+      × makes who (IsOfStretch config class (record { from = 0; until = length noted.after }))
+  BreaksOffAs config seen histories who moment (Crawls class) =
+      (noted : NotesCrawlingCut config (seen.classes class) (histories.classes class) who class moment)
+      × makes who (IsOfStretches config class noted.stretches)
+  BreaksOffAs config seen histories who moment (Limits class n) = makes who (λ lock place event. ⊥)
+
+  -- a call was begun after what was seen, and a fault broke it off: the histories have grown since, and have its beginning
+  pub record BreaksOffAfter (config : Config) (seen histories : Histories) (who : Who) (begun : Begun) : Type 0 where
+    pub grew : Grow config seen histories
+    pub placed : IsPlaced config begun.call
+    pub left : BreaksOffAs config seen histories who begun.moment begun.call
+
+  -- what the histories have after a caller's answered calls, by what these have reached: they have grown since, and have the call of
+  -- the next turn that broke off, if one did
+  abbrev pub StandsLast : Config → Histories → Who → Option Begun → Histories → Type 0
+  StandsLast config histories who None reached = Grow config reached histories
+  StandsLast config histories who (Some begun) reached = BreaksOffAfter config reached histories who begun
+
   -- a call comes next after what was seen, and the later calls come after what its caller has reached by it
   pub record StandsNext (config : Config) (seen : Histories) (call : Exchange) (later : Histories → Type 0) : Type 0 where
     pub reached : Histories
     pub between : StandsBetween config seen reached call
     pub behind : later reached
 
-  -- the histories have these calls in turn: the first after what was seen, each other after all that the caller reached before it
-  abbrev pub Stand : Config → Histories → Histories → List Exchange → Type 0
-  Stand config seen histories [] = Grow config seen histories
-  Stand config seen histories (call ∷ calls) = StandsNext config seen call (λ reached. Stand config reached histories calls)
+  -- these calls stand in turn: the first after what was seen, each other after all that the caller reached before it, and then `end`
+  -- holds of what the last one reached
+  abbrev pub StandFrom : Config → Histories → List Exchange → (Histories → Type 0) → Type 0
+  StandFrom config seen [] end = end seen
+  StandFrom config seen (call ∷ calls) end = StandsNext config seen call (λ reached. StandFrom config reached calls end)
+
+  -- the histories have these calls of this caller in turn, and then the one that broke off, if one did
+  abbrev pub Stand : Config → Histories → ℕ → List Exchange → Option Begun → Type 0
+  Stand config histories caller calls begun =
+      StandFrom config nothing_seen calls (StandsLast config histories (record { caller = caller; turn = length calls }) begun)
 
 -- the histories have this exchange at any place, and no other events of its call
 abbrev pub StandsAnywhere : Config → Histories → Exchange → Type 0

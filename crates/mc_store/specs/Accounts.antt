@@ -45,7 +45,7 @@ IsInClass P (Class e) = P e
 IsInClass P (Stripe e) = ⊥
 IsInClass P (Call e) = ⊥
 
--- what a walk in a class may make: events of the class, and of the stripes at which it looks
+-- what a walk in a class may make: events of the class, and of any stripe
 abbrev pub IsOfWalk : Config → ClassNo → (lock place : ℕ) → Event → Type 0
 IsOfWalk config class lock place event = (lock ≡ class_lock config class) ⊎ (lock < config.stripes)
 
@@ -62,12 +62,12 @@ IsWithin stretch place = (stretch.from ≤ place) × (place < stretch.until)
 abbrev pub stretch_of : (c c_new : ClassView) → Stretch
 stretch_of c c_new = record { from = length c.history; until = length c_new.history }
 
--- what a search in a class may make: events of the class in this stretch of its history, and of the stripes at which it looks
+-- what a search in a class may make: events of the class in this stretch of its history, and of any stripe
 abbrev pub IsOfStretch : Config → ClassNo → Stretch → (lock place : ℕ) → Event → Type 0
 IsOfStretch config class stretch lock place event =
     ((lock ≡ class_lock config class) × IsWithin stretch place) ⊎ (lock < config.stripes)
 
--- what the crawls of links may make: events of the class in these stretches of its history, and of the stripes at which they look
+-- what the crawls of links may make: events of the class in these stretches of its history, and of any stripe
 abbrev pub IsOfStretches : Config → ClassNo → List Stretch → (lock place : ℕ) → Event → Type 0
 IsOfStretches config class stretches lock place event =
     ((lock ≡ class_lock config class) × ((k : ℕ) × IsSomeAnd (slice_get stretches k) (λ stretch. IsWithin stretch place))) ⊎ (lock < config.stripes)

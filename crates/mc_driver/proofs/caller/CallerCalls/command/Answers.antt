@@ -3,7 +3,7 @@ use Rattle.mc_item.specs.{Command.key_of, Measure.stripe_of}
 use Rattle.mc_script.specs.Exchanges.{Asks}
 use Rattle.mc_store.specs.Callers.{asked_for}
 use Rattle.mc_driver.proofs.{CalledEventLemmas.cut_calls, CalledEventLemmas.full_calls, CalledEventLemmas.short_any, SharedCallLemmas.call_failed, SharedCallLemmas.command_gains}
-use Rattle.mc_driver.proofs.SharedCallLemmas.{goes_on, replied_ok}
+use Rattle.mc_driver.proofs.SharedCallLemmas.{command_cut, goes_on, replied_ok}
 use Rattle.mc_evidence.proofs.SoundLemmas.{below_stripes}
 use Rattle.mc_driver.proofs.caller.CallerCalls.command.Goals as goal
 
@@ -24,7 +24,7 @@ returns-clause-err g c =
     let new = c.command.new.pass in
     let gained = command_gains config number old new c.args.command c.args.moment c.command.result c.command.ensures.replied c.command.ensures.cut in
     call_failed config old new c.command.ensures.caller c.command.ensures.grows.seen c.requires.may gained (Asks c.args.command) c.args.moment c.command.result
-    (cut_calls config number old new c.args.command c.args.moment c.command.result c.command.ensures.cut)
+    (command_cut config old new c.args.command c.args.moment c.command.result c.requires.may c.command.ensures.grows.seen c.command.ensures.cut)
 
 pub returns-clause-caller : goal.returns-clause-caller
 returns-clause-caller g c =

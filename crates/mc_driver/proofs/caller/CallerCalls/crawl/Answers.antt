@@ -2,6 +2,7 @@ use Rattle.std.proofs.Common.{⊎_elim, inl, inr, refl}
 use Rattle.mc_script.specs.Exchanges.{Crawls}
 use Rattle.mc_store.specs.Callers.{crawling_of}
 use Rattle.mc_store.proofs.SeenStripeLemmas.{on_err_more}
+use Rattle.mc_driver.proofs.CutCallLemmas.{crawl_broke}
 use Rattle.mc_driver.proofs.{CalledEventLemmas.full_calls, CalledEventLemmas.short_class_any, SharedCallLemmas.call_failed, SharedCallLemmas.crawl_gains, SharedCallLemmas.crawled_kinds}
 use Rattle.mc_driver.proofs.SharedCallLemmas.{crawled_ok, goes_on}
 use Rattle.mc_driver.proofs.caller.CallerCalls.crawl.Goals as goal
@@ -20,7 +21,9 @@ pub returns-clause-err : goal.returns-clause-err
 returns-clause-err g c =
     call_failed g.N.Named.config c.args.self.now.pass c.crawl.new.pass c.crawl.ensures.caller c.crawl.ensures.grows.seen c.requires.may
     (crawl_gains g.N.Named.config c.args.class c.args.self.now.pass c.crawl.new.pass c.args.moment c.crawl.result c.crawl.ensures.crawled c.crawl.ensures.cut) (Crawls c.args.class) c.args.moment c.crawl.result
-    (on_err_more c.crawl.result _ _ (λ cut. ⊎_elim (λ same. inl same) (λ till. inr till.noted) cut) c.crawl.ensures.cut)
+    (on_err_more c.crawl.result _ _ (λ cut. ⊎_elim (λ same. inl same)
+    (λ till. inr (till.noted, λ before. crawl_broke g.N.Named.config c.args.class c.args.self.now.pass c.crawl.new.pass c.args.moment c.requires.there c.crawl.ensures.grows.seen before till)) cut)
+    c.crawl.ensures.cut)
 
 pub returns-clause-caller : goal.returns-clause-caller
 returns-clause-caller g c =

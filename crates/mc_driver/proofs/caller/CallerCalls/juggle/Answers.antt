@@ -2,6 +2,7 @@ use Rattle.std.proofs.Common.{⊎_elim, inl, inr, refl}
 use Rattle.mc_script.specs.Exchanges.{Juggles}
 use Rattle.mc_store.specs.Callers.{juggling_of}
 use Rattle.mc_store.proofs.SeenStripeLemmas.{on_err_of}
+use Rattle.mc_driver.proofs.CutCallLemmas.{juggling_broke}
 use Rattle.mc_driver.proofs.{EnteredCallLemmas.gains, CalledEventLemmas.full_calls, CalledEventLemmas.short_class_any, SharedCallLemmas.call_failed, SharedCallLemmas.goes_on, SharedCallLemmas.juggled_ok}
 use Rattle.mc_driver.proofs.caller.CallerCalls.juggle.Goals as goal
 
@@ -15,7 +16,11 @@ pub returns-clause-err : goal.returns-clause-err
 returns-clause-err g c =
     let gained = gains _ c.args.self.now.pass c.juggle.new.pass c.juggle.ensures.account in
     call_failed g.N.Named.config c.args.self.now.pass c.juggle.new.pass c.juggle.ensures.caller c.juggle.ensures.grows.seen c.requires.may gained (Juggles c.args.class) c.args.moment c.juggle.result
-    (on_err_of c.juggle.result _ _ (λ fault cut. ⊎_elim (λ same. inl same) (λ till. inr till.noted) cut) c.juggle.ensures.cut)
+    (on_err_of c.juggle.result _ _ (λ fault cut. ⊎_elim (λ same. inl same)
+    (λ till. inr (
+      till.noted,
+      juggling_broke g.N.Named.config c.args.class c.args.self.now.pass c.juggle.new.pass c.args.moment fault till c.requires.there c.juggle.ensures.grows.seen c.juggle.ensures.account,
+    )) cut) c.juggle.ensures.cut)
 
 pub returns-clause-caller : goal.returns-clause-caller
 returns-clause-caller g c =

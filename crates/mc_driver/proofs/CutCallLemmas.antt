@@ -1,0 +1,206 @@
+-- A call that a fault broke off left its beginning in what its caller's pass has seen, after what it had seen before.
+use Rattle.std.proofs.Common.{◌≡◌, ◌<◌, ℕ, List, [], ◌∷◌, ◌++◌, length, slice_get, refl, sym, ap, ◌∙◌, append-nil, subst, arith, inl, inr, ⊎_elim}
+use mathlib.Core.List.{IsPrefix}
+use Rattle.std.proofs.Math.Nat.{mod-lt}
+use Rattle.std.proofs.lemmas.Option.{slice_get_within}
+use Rattle.mc_item.specs.{Command.key_of, Measure.fnv1a}
+use Rattle.mc_item.specs.declared.{answer.Need.Need, answer.Site.Site, class_event.ClassEvent.ClassEvent, command.Command.Command, config.Config.Config}
+use Rattle.mc_item.specs.declared.{counts.Histogram.Histogram, event.Event.Event, fault.Fault.Fault, item.ClassNo.ClassNo, item.Link.Link, item.Who.Who, stripe_event.StripeEvent.StripeEvent}
+use Rattle.mc_item.specs.declared.event.Event.TheVariants as board_events
+use Rattle.mc_board.specs.{Accounts.maker_of, Accounts.who_of, Histories.Grows, Histories.list_at}
+use Rattle.mc_board.specs.declared.rule.Sight.{Sight}
+use Rattle.mc_board.proofs.PrefixLemmas.{prefix_self}
+use Rattle.mc_evidence.specs.{Seen.class_events, Seen.classes_seen, Seen.stripe_events, Setting.IsClass, Setting.site_in}
+use Rattle.mc_evidence.proofs.SeenLemmas.{class_events-map, classes_grow, stripe_events-map}
+use Rattle.mc_pull.specs.Rounds.{Rounds, rounds}
+use Rattle.mc_script.specs.Exchanges.{Asks, Begun, Crawls, Juggles, Limits, ScriptCall}
+use Rattle.mc_segment.specs.ClassState.{ClassView}
+use Rattle.mc_stripe.specs.{Plan.visible_row, StripeState.stripe}
+use Rattle.mc_store.specs.{Accounts.Enters, Accounts.IsOfCommand, Accounts.IsOfWalk, Accounts.Stretch, Calls.HasGained, Calls.IsCutBy, Calls.IsJuggleCut, Calls.IsJuggledTill, Calls.IsUpkeepCut}
+use Rattle.mc_store.specs.{Crawls.AreLinksCounted, Crawls.IsCrawledTill, Locked.class_lock, Locked.setting_of, Passes.PassView}
+use Rattle.mc_store.specs.{Passes.next_who, Searches.IsSearchUpTo, Sides.class_told, Sides.stripe_told}
+use Rattle.mc_store.proofs.{EarnedRefusalLemmas.opened_again, LockKeepsLemmas.site_of_number, SyncedStepLemmas.map_length}
+use Rattle.mc_driver.specs.{Caller.EntersOnly, Caller.IsBefore, Caller.histories_seen, Cut.NotesJugglingCut, Cut.NotesSearchUpTo}
+use Rattle.mc_driver.specs.Stand.{BreaksOffAfter, stripe_number}
+use Rattle.mc_driver.proofs.{EnteredCallLemmas.entered_only, EnteredCallLemmas.stands_within, NotedPlaceLemmas.class_begins, NotedPlaceLemmas.stripe_begins}
+use Rattle.mc_driver.proofs.SeenByCallLemmas.{led_up_there, search_there, seen_grow}
+
+abbrev begun_call : ScriptCall → ℕ → Begun
+begun_call call moment = record { call = call; moment = moment }
+
+-- what was seen to begin a class's history begins what was seen of it
+class_seen_begins : (config : Config) (sight : Sight) (class : ClassNo) (history : List ClassEvent) → IsPrefix (class_told history) (list_at sight.seen (class_lock config class))
+    → IsPrefix history (classes_seen config.stripes (list_at sight.seen) class)
+class_seen_begins config sight class history begins =
+    subst (λ (h : List ClassEvent). IsPrefix h (class_events (list_at sight.seen (class_lock config class)))) (class_events-map history)
+    (classes_grow config.stripes (λ lock. class_told history) (λ lock. list_at sight.seen (class_lock config class)) (λ lock. begins) class)
+
+-- a search for a chunk that a fault may have broken off, as a pass has seen it, stands in what it has seen
+search_up_to_there : (config : Config) (need : Need) (who : Who) (moment : ℕ) (sight : Sight) (stretch : Stretch) → IsSearchUpTo config need who moment sight stretch
+    → NotesSearchUpTo config need (classes_seen config.stripes (list_at sight.seen)) who moment stretch
+search_up_to_there config need who moment sight stretch (inl one) = inl (search_there config need who moment sight stretch one)
+search_up_to_there config need who moment sight stretch (inr some) =
+    let cut = some.2 in
+    inr (
+      some.0,
+      some.1,
+      λ is. record {
+        before = cut.before;
+        searched = cut.searched;
+        broken = cut.broken;
+        from_is = cut.from_is;
+        until_is = cut.until_is;
+        begins = class_seen_begins config sight some.0 cut.searched cut.seen;
+      },
+    )
+
+-- of a command
+pub command_broke : (config : Config) (before after : PassView) (command : Command) (moment : ℕ) (fault : Fault) → 0 < config.stripes → Grows before.sight after.sight → IsBefore before.turn before.made
+    → IsCutBy config (stripe_number config.stripes command) before after command moment fault
+    → BreaksOffAfter (EntersOnly after) config (histories_seen config before.sight) (histories_seen config after.sight) (next_who before) (begun_call (Asks command) moment)
+command_broke config before after command moment fault some grows earlier by =
+    let who = next_who before in
+    let number = stripe_number config.stripes command in
+    let longer = by.old.history ++ by.cut.before in
+    let now : stripe_events (list_at after.sight.seen number) ≡ by.new.history = ap stripe_events by.grew.now ∙ stripe_events-map by.new.history in
+    let site : by.old.site ≡ site_in (setting_of config) number = sym (site_of_number config by.old by.grew.made_with) ∙ ap (site_in (setting_of config)) by.grew.number_is in
+    record {
+      grew = seen_grow config before.sight after.sight grows;
+      placed = mod-lt (fnv1a (key_of command)) some;
+      left = (
+        record {
+          older = by.old.history;
+          made = by.cut.before;
+          behind = [];
+          past = stripe_begins (list_at before.sight.seen number) by.old.history by.grew.seen;
+          first = by.first;
+          led_up = ⊎_elim (λ none. inl none) (λ led. inr (led_up_there config number who command moment by.old by.cut.before site led)) by.cut.led_up;
+          split = now ∙ (by.cut.history_is ∙ sym (append-nil longer));
+          stretch = by.stretch;
+          search = subst (λ (t : Site). NotesSearchUpTo config (visible_row (stripe t config.max_events config.keeps_events by.old.history 0) command moment).need
+              (histories_seen config after.sight).classes who moment by.stretch) site
+              (search_up_to_there config (visible_row by.old command moment).need who moment after.sight by.stretch by.search);
+        },
+        entered_only before after _ _ earlier by.account (λ lock place event at mine suits. (
+          subst (λ (t : Site). IsOfCommand config (stripe t config.max_events config.keeps_events by.old.history 0) command moment by.stretch lock place event) site suits,
+          λ own.
+              let seen : list_at after.sight.seen lock ≡ stripe_told by.new.history = ap (list_at after.sight.seen) own ∙ by.grew.now in
+              let within = stands_within board_events.Stripe who_of who by.old.history by.cut.before by.new.history place event (λ e. refl) by.first.each by.cut.history_is
+              (ap (λ (l : List Event). slice_get l place) (sym seen) ∙ at) mine in
+              (within.0, subst (λ (h : List StripeEvent). place < length h) by.cut.history_is within.1),
+        )),
+      );
+    }
+
+-- of juggling: it broke off at a hit, or in the rounds after all hits
+module _ (config : Config) (class : ClassNo) (before after : PassView) (moment : ℕ) (fault : Fault) (till : IsJuggledTill config class before after moment fault) where
+  abbrev CutAt : Type 0
+  CutAt = IsUpkeepCut config till.old (record { who = next_who before; moment = moment }) before.hands after.hands till.history_new fault
+
+  begins : IsPrefix till.history_new ((histories_seen config after.sight).classes class)
+  begins = subst (IsPrefix till.history_new) (sym (ap class_events till.grew.now ∙ class_events-map till.history_new)) (prefix_self till.history_new)
+
+  past : IsPrefix ((histories_seen config before.sight).classes class) till.old.history
+  past = class_begins (list_at before.sight.seen (class_lock config class)) till.old.history till.grew.seen
+
+  noted : CutAt → NotesJugglingCut config ((histories_seen config before.sight).classes class) ((histories_seen config after.sight).classes class) (next_who before) class moment
+  noted (inl at) =
+      let few = at.few in
+      record {
+        before = till.old.history;
+        past = past;
+        first = till.first;
+        hits = at.hits;
+        few = omega (arith, few);
+        advanced = till.history_new;
+        moved = at.advanced;
+        after = till.history_new;
+        cut = inl refl;
+        begins = begins;
+      }
+  noted (inr rest) =
+      let same = opened_again config till.old class till.grew.made_with till.grew.number_is in
+      record {
+        before = till.old.history;
+        past = past;
+        first = till.first;
+        hits = rest.1.hits;
+        few = rest.1.few;
+        advanced = rest.0;
+        moved = rest.1.advanced;
+        after = till.history_new;
+        cut = inr (fault, subst (λ (r : Rounds). IsJuggleCut r fault rest.0 till.history_new) (ap (λ (v : ClassView). rounds v (next_who before) moment config) same) rest.2);
+        begins = begins;
+      }
+
+  after_is : (cut : CutAt) → (noted cut).after ≡ till.history_new
+  unfolding noted
+  after_is (inl at) = refl
+  after_is (inr rest) = refl
+
+  pub juggling_broke : IsClass (setting_of config) class → Grows before.sight after.sight → Enters (IsOfWalk config class) before.turn after.sight before.made after.made → IsBefore before.turn before.made
+      → BreaksOffAfter (EntersOnly after) config (histories_seen config before.sight) (histories_seen config after.sight) (next_who before) (begun_call (Juggles class) moment)
+  juggling_broke is grows account earlier = record {
+    grew = seen_grow config before.sight after.sight grows;
+    placed = is;
+    left = (
+      noted till.cut,
+      entered_only before after _ _ earlier account (λ lock place event at mine suits. ⊎_elim
+          (λ own.
+          let seen : list_at after.sight.seen lock ≡ class_told till.history_new = ap (list_at after.sight.seen) own ∙ till.grew.now in
+          let below : place < length (class_told till.history_new) = slice_get_within (class_told till.history_new) place event (ap (λ (l : List Event). slice_get l place) (sym seen) ∙ at) in
+          inl (own, (omega arith, subst (λ (n : ℕ). place < n) (map_length board_events.Class till.history_new ∙ ap length (sym (after_is till.cut))) below)))
+          (λ stripe. inr stripe)
+          suits),
+    );
+  }
+
+-- what was seen when links were counted is a class's history told
+counted_told : (config : Config) (class : ClassNo) (at : List ClassEvent) (seen until : List Event) (who : Who) (moment : ℕ) (links : List Link) (stretches : List Stretch) (h h_new : Histogram)
+    → seen ≡ class_told at → AreLinksCounted config class seen until who moment links stretches h h_new → (end : List ClassEvent) × (until ≡ class_told end)
+counted_told config class at seen until who moment [] [] h h_new is counted = (at, counted.0 ∙ is)
+counted_told config class at seen until who moment [] (stretch ∷ stretches) h h_new is counted = absurd counted
+counted_told config class at seen until who moment (link ∷ links) [] h h_new is counted = absurd counted
+counted_told config class at seen until who moment (link ∷ links) (stretch ∷ stretches) h h_new is counted =
+    counted_told config class counted.2.new.history counted.0 until who moment links stretches counted.1 h_new counted.2.now counted.3
+
+-- of a crawl
+pub crawl_broke : (config : Config) (class : ClassNo) (before after : PassView) (moment : ℕ) → IsClass (setting_of config) class → Grows before.sight after.sight → IsBefore before.turn before.made
+    → IsCrawledTill config class before after moment
+    → BreaksOffAfter (EntersOnly after) config (histories_seen config before.sight) (histories_seen config after.sight) (next_who before) (begun_call (Crawls class) moment)
+crawl_broke config class before after moment is grows earlier till =
+    let told = counted_told config class till.history (class_told till.history) till.until (next_who before) moment till.links till.stretches _ till.histogram refl till.counted in
+    record {
+      grew = seen_grow config before.sight after.sight grows;
+      placed = is;
+      left = (
+        record {
+          at = till.history;
+          past = class_begins (list_at before.sight.seen (class_lock config class)) till.history till.begins;
+          links = till.links;
+          some = till.some;
+          stretches = till.stretches;
+          histogram = till.histogram;
+          end = told.0;
+          counted = subst (λ (es : List Event). AreLinksCounted config class (class_told till.history) es (next_who before) moment till.links till.stretches _ till.histogram) told.1 till.counted;
+          begins = class_seen_begins config after.sight class told.0 (subst (λ (es : List Event). IsPrefix es (list_at after.sight.seen (class_lock config class))) told.1 till.now);
+        },
+        entered_only before after _ _ earlier till.account (λ lock place event at mine suits. suits),
+      );
+    }
+
+-- a call that sets a limit made no event
+pub limit_broke : (config : Config) (class : ClassNo) (before after : PassView) (chunks moment : ℕ) → IsClass (setting_of config) class → Grows before.sight after.sight → IsBefore before.turn before.made
+    → Enters (λ lock place event. lock ≡ class_lock config class) before.turn after.sight before.made after.made → HasGained config class before.sight after.sight (next_who before) []
+    → BreaksOffAfter (EntersOnly after) config (histories_seen config before.sight) (histories_seen config after.sight) (next_who before) (begun_call (Limits class chunks) moment)
+limit_broke config class before after chunks moment is grows earlier account by =
+    let same = append-nil by.old.history in
+    record {
+      grew = seen_grow config before.sight after.sight grows;
+      placed = is;
+      left = entered_only before after _ _ earlier account (λ lock place event at mine own.
+          let seen : list_at after.sight.seen lock ≡ class_told (by.old.history ++ []) = ap (list_at after.sight.seen) own ∙ by.grew.now in
+          let within = stands_within board_events.Class maker_of (next_who before) by.old.history [] (by.old.history ++ []) place event (λ e. refl) by.first.each refl
+          (ap (λ (l : List Event). slice_get l place) (sym seen) ∙ at) mine in
+          omega (arith, within.0, within.1, ap length same));
+    }
