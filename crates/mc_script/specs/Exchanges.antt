@@ -1,6 +1,8 @@
 -- Calls, and exchanges: a call with its answer, in a turn of its caller (the call's number).
 use Rattle.std.specs.Prelude.{ℕ, ◌≡◌, ◌+◌, List, [], ◌∷◌, Option, Some, None}
-use Rattle.mc_item.specs.declared.{command.Command.Command, item.ClassNo.ClassNo, item.Who.Who}
+use Rattle.mc_item.specs.Answer.{row_of}
+use Rattle.mc_item.specs.declared.{answer.Site.Site, command.Command.Command, item.ClassNo.ClassNo, item.Item.Item, item.Who.Who}
+use Rattle.mc_item.specs.declared.{reply.Reply.Reply, reply.Room.Room}
 use Rattle.mc_proto.specs.Answers.{Answer, Counted, Limited, Replied, Moved}
 
 -- a call: a command, the maintainer's or the crawler's work on a slab class, or a class's new limit of chunks
@@ -10,10 +12,19 @@ pub data ScriptCall : Type 0 where
   Crawls : ClassNo → ScriptCall
   Limits : ClassNo → ℕ → ScriptCall
 
--- the answer fits the call: a reply to a command, moves for the maintainer's work, a histogram for the crawler's, or that a limit
+-- a reply to a command: one that the table of commands gives it, for some item found and some room
+pub record IsReplyTo (command : Command) (reply : Reply) : Type 0 where
+  pub site : Site
+  pub versions : ℕ
+  pub found : Option Item
+  pub moment : ℕ
+  pub room : Room
+  pub reply_is : reply ≡ ((row_of site versions found command moment).answer room).reply
+
+-- the answer fits the call: a reply to the command, moves for the maintainer's work, a histogram for the crawler's, or that a limit
 -- was set
 abbrev pub IsOfKind : ScriptCall → Answer → Type 0
-IsOfKind (Asks command) (Replied reply) = Unit {0}
+IsOfKind (Asks command) (Replied reply) = IsReplyTo command reply
 IsOfKind (Juggles class) (Moved moves) = Unit {0}
 IsOfKind (Crawls class) (Counted histogram) = Unit {0}
 IsOfKind (Limits class n) Limited = Unit {0}

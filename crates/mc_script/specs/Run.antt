@@ -38,7 +38,7 @@ pub record HasRead (limits : Limits) (bytes left : List ℕ) (own : List Request
   pub reads : Reads limits came requests rest
   pub own_are : own_requests requests ≡ own
 
--- all requests in the bytes that came were answered, the sink took their texts, and none of them ends the script
+-- the sink took the texts of all requests in the bytes that came, with answers that fit their calls, and none of them ends the script
 pub record IsOut (limits : Limits) (came start taken : List ℕ) : Type 0 where
   pub requests : List Request
   pub rest : List ℕ
@@ -50,8 +50,8 @@ pub record IsOut (limits : Limits) (came start taken : List ℕ) : Type 0 where
   pub texts : taken ≡ start ++ texts_of answered
 
 module _ {E : Type 0} (gave : E → E → List ℕ → Type 0) (taken : E → List ℕ) (reads writes over : E → ℕ) (may_ask : E → Type 0) where
-  -- a script may run from these ends: the next bytes may be asked for as long as all requests in the bytes that came are answered,
-  -- nothing has failed and the end wasn't reached
+  -- a script may run from these ends: the next bytes may be asked for as long as the texts of all requests in the bytes that came are
+  -- out, nothing has failed and the end wasn't reached
   abbrev pub MayRunFrom : Limits → E → Type 0
   MayRunFrom limits start = (e : E) (came : List ℕ) → gave start e came → IsOut limits came (taken start) (taken e)
       → reads e ≡ reads start → writes e ≡ writes start → over e ≡ over start → may_ask e
@@ -63,7 +63,7 @@ pub record HasRunTo (limits : Limits) (bytes left start taken : List ℕ) (notes
   pub run : HasRun limits came start taken notes caller
   pub none : NoneEnds run.requests
 
--- a piece came that could not be read; all requests in the bytes before it were answered, and none of them ends the script
+-- some last bytes that came, perhaps none, were not read; all requests before them were answered, and none of these ends the script
 pub record HasStarved (limits : Limits) (bytes left start taken : List ℕ) (notes : Notes) (caller : ℕ) : Type 0 where
   pub piece : List ℕ
   pub run : HasRunTo limits bytes (piece ++ left) start taken notes caller

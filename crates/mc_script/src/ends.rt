@@ -7,7 +7,7 @@ use mc_proto::{ReplyText, Sink, SinkFault};
 
 /// Where a script's bytes come from, and where its texts go. Contracts see which bytes came from one state to a later one (`gave`),
 /// whether the end was reached, so that no more can come (`ended`), and the bytes taken.
-/// They count failed reads and writes, and how often the end was reached (`over`).
+/// They count failed reads and writes, and `over`, which stays while bytes come.
 /// `may_ask` says when the next piece may be asked for.
 pub trait Ends: Drop {
     ghost gave: { Self → Self → List ℕ → Type 0 };

@@ -15,7 +15,7 @@ const LIMITS: Limits = Limits {
     classes: 3,
 };
 
-// Calls that are noted; all fail that come after so many. Each command misses; the maintainer reclaims as many entries of a
+// Calls that are noted; all fail that come after so many. Each `get` misses; the maintainer reclaims as many entries of a
 // class as its number says, and moves ten times as many. The crawler counts as many with a minute to live, or with none
 // if the number is even, ten times as many with an hour, and so on by tens: without an expiry, reclaimed, passed, gone.
 // The call that sets a limit is noted with the limit in place of a moment.
@@ -55,7 +55,9 @@ impl Calls for Noted {
     } };
 
     fn command(&mut self, _rt: &impl Wait, command: Command, _moment: u64) -> Result<Reply, Fault> {
-        drop(command);
+        let Command::Get(_) = command else {
+            return Err(Fault::NoMemory);
+        };
         if self.made >= self.most {
             return Err(Fault::NoMemory);
         }

@@ -72,7 +72,7 @@ impl<R: Abort> Ends for Watched<'_, R> {
         ∙ sym (append_assoc came more third.source.rest.now) };
 }
 
-// Calls that all miss, up to a number of them.
+// A `get` misses, up to a number of calls.
 #[derive(Drop)]
 struct Misses {
     made: u64,
@@ -94,12 +94,10 @@ impl Calls for Misses {
       is_full = MOST ≤ m.made;
     } };
 
-    fn command(
-        &mut self,
-        _rt: &impl Wait,
-        _command: Command,
-        _moment: u64,
-    ) -> Result<Reply, Fault> {
+    fn command(&mut self, _rt: &impl Wait, command: Command, _moment: u64) -> Result<Reply, Fault> {
+        let Command::Get(_) = command else {
+            return Err(Fault::NoMemory);
+        };
         if self.made >= MOST {
             return Err(Fault::HistoryFull);
         }

@@ -1,13 +1,18 @@
 -- A call that misses is one more.
-use Rattle.std.proofs.Common.{arith, length-append, refl}
+use Rattle.std.proofs.Common.{arith, length-append, refl, sym, ap, [], None}
+use Rattle.mc_item.specs.Answer.{row_of}
+use Rattle.mc_item.specs.declared.{answer.Site.Site, command.Command.Command, reply.Room.TheVariants.Keep}
 use Rattle.mc_script.specs.Exchanges.{Exchange}
 use Rattle.mc_script_tests.proofs.tests.noted.NotedCalls.command.Goals as goal
 
 pub returns-clause-ok : goal.returns-clause-ok
-returns-clause-ok g c = record {
-  long = refl;
-  kinds = (tt, tt);
-  noted = record { at = λ calls is. omega (arith, length-append {A = Exchange}) };
-  turns = omega arith;
-  caller = refl;
-}
+returns-clause-ok g c =
+    let site : Site = record { stripe = 0; stripes = 1; sizes = [] } in
+    let reply_to = λ (command : Command). ((row_of site 0 None command 0).answer Keep).reply in
+    record {
+      long = refl;
+      kinds = (record { site = site; versions = 0; found = None; moment = 0; room = Keep; reply_is = sym (ap reply_to c.in-Get.is) }, tt);
+      noted = record { at = λ calls is. omega (arith, length-append {A = Exchange}) };
+      turns = omega arith;
+      caller = refl;
+    }
