@@ -67,6 +67,7 @@ fn say_words<W: Write, E: Write>(alloc: Global, error: &Error, writer: &mut W, e
     ensures shown { result ≡ 0 → (kind_of error.now ≡ DisplayHelp) ⊎ (kind_of error.now ≡ DisplayVersion) }
     ensures mistake { result ≡ 2 → (kind_of error.now ≢ DisplayHelp) × (kind_of error.now ≢ DisplayVersion) }
     ensures kept { result ≡ 1 ⊎ (result ≡ 2) → Keeps (W.contents writer.old) (W.contents writer.new) }
+    ensures quiet { result ≡ 0 → Keeps (E.contents errors.old) (E.contents errors.new) }
     ensures few { result ≤ 3 }
 {
     if let ErrorKind::OutOfMemory = error.kind() {
@@ -97,7 +98,8 @@ fn say_configuration<E: Write>(alloc: Global, number: u8, errors: &mut E) -> u8
 // Returns the status of an outcome, and says its fault on standard error. A conversation (`follow`) writes to the output, other
 // scripts into memory, which fails only if memory runs out.
 fn say_outcome<E: Write>(outcome: Outcome, follow: bool, errors: &mut E) -> u8
-    ensures { result ≡ status_of follow outcome }
+    ensures status { result ≡ status_of follow outcome }
+    ensures quiet { result ≡ 0 → Keeps (E.contents errors.old) (E.contents errors.new) }
 {
     match outcome {
         Outcome::Done => 0,
@@ -113,6 +115,7 @@ fn say_outcome<E: Write>(outcome: Outcome, follow: bool, errors: &mut E) -> u8
 fn say_outcomes<E: Write>(outcomes: &[Outcome], follow: bool, errors: &mut E) -> u8
     ensures done { result ≡ 0 → All (λ outcome. outcome ≡ Done) outcomes.now }
     ensures first { 0 < result → IsFirstFault follow result outcomes.now }
+    ensures quiet { result ≡ 0 → Keeps (E.contents errors.old) (E.contents errors.new) }
 {
     for outcome in outcomes {
         let status = say_outcome(*outcome, follow, errors);
@@ -146,6 +149,7 @@ fn print_answered<R: Wait, L: Ledger, W: Write, E: Write>(
         (flat_map (λ end. bytes_of_parts end.1.pieces.items) run.now.ends.items) }
     ensures done { result ≡ 0 → All (λ outcome. outcome ≡ Done) run.now.outcomes.items }
     ensures first { result ≡ 1 → IsFirstFault false 1 run.now.outcomes.items }
+    ensures quiet { result ≡ 0 → Keeps (E.contents errors.old) (E.contents errors.new) }
     ensures never { result ≢ 2 }
     ensures few { result ≤ 3 }
 {
@@ -173,6 +177,7 @@ fn run_input<R: Threads + Wait + Sync, L: Ledger + Send + Sync, W: Write, E: Wri
         ⊎ IsAnsweredInPart 1 false plan.config plan.upkeep (flat_map (λ v. v.items) input.items) (W.contents writer.old) (W.contents writer.new) }
     ensures refused { result ≡ 2 → IsUnrun unrun.Scripts plan.config (flat_map (λ v. v.items) input.items) }
     ensures kept { result ≡ 2 → Keeps (W.contents writer.old) (W.contents writer.new) }
+    ensures quiet { result ≡ 0 → Keeps (E.contents errors.old) (E.contents errors.new) }
     ensures few { result ≤ 3 }
 {
     let (book, share) = blank.open::<L>();
@@ -202,6 +207,7 @@ fn run_conversation<T: Threads + Wait + Sync, R: Read + Send, W: Write + Send, E
     ensures broken { result ≡ 1 → Keeps (W.contents writer.old) (W.contents writer.new) ⊎ OfAllBytes (R.remaining reader.old)
         (λ input. IsAnsweredInPart 1 true plan.config plan.upkeep input (W.contents writer.old) (W.contents writer.new)) }
     ensures never { result ≢ 2 }
+    ensures quiet { result ≡ 0 → Keeps (E.contents errors.old) (E.contents errors.new) }
     ensures few { result ≤ 3 }
 {
     match converse(host, plan, reader, writer) {
@@ -214,7 +220,8 @@ fn run_conversation<T: Threads + Wait + Sync, R: Read + Send, W: Write + Send, E
 /// with the upkeep asked for, and prints the replies script by script. With `--follow` the input is one script, which is answered
 /// as it comes. `words` begin with the program's name.
 ///
-/// - 0: all went well. All that the reader had to give is answered as the words ask, or help or the version is shown.
+/// - 0: all went well. All that the reader had to give is answered as the words ask, or help or the version is shown. `errors` got
+///   nothing.
 /// - 1: memory ran out, or a history was full. `writer` got nothing, or all replies up to what went wrong.
 /// - 2: the words were refused, or there were more than 62 scripts. `writer` got nothing.
 /// - 3: reading or writing failed.
@@ -230,10 +237,11 @@ pub fn run_words<T: Threads + Wait + Sync, R: Read + Send, W: Write + Send, E: W
     writer: &mut W,
     errors: &mut E,
 ) -> u8
-    // Status 0: the program did its work, or showed help or the version.
+    // Status 0: the program did its work, or showed help or the version, and wrote no error.
     ensures done { result ≡ 0 → refusals (texts words.now) ≡ []
         → HasServed (texts words.now) (R.remaining reader.old) (W.contents writer.old) (W.contents writer.new) }
     ensures shown { result ≡ 0 → (refusals (texts words.now) ≡ []) ⊎ AreForHelp (texts words.now) }
+    ensures quiet { result ≡ 0 → Keeps (E.contents errors.old) (E.contents errors.new) }
 
     // Status 1: nothing is written, or the scripts' replies up to where memory ran out or a history was full.
     ensures broken { result ≡ 1 → Keeps (W.contents writer.old) (W.contents writer.new)
