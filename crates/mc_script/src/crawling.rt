@@ -1,5 +1,5 @@
 //! `%crawl`, the crawler's directive: one call for each class that it names, and a text with the sum of their histograms.
-ghost use Rattle.std.specs.Prelude.{◌≡◌, ◌+◌, ◌<◌, ◌≤◌, ◌^◌, ℕ, map, IfErr, IfOk, OnOk};
+ghost use Rattle.std.specs.Prelude.{◌+◌, ◌<◌, ◌≤◌, ◌^◌, ℕ, map, IfErr, IfOk, OnOk};
 ghost use Rattle.mc_proto.specs.{Answers.counts_of, Grammar.AreAmong};
 ghost use Rattle.mc_proto.specs.declared.request.Request.TheVariants as requests;
 ghost use Rattle.mc_script.specs.Calls.{Answers, Begins, Breaks, Fails, GoesOn, MayAnswer, SumsUp};

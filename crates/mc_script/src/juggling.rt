@@ -1,5 +1,5 @@
 //! `%juggle`, the maintainer's directive: one call for each class that it names, and a text with the sums of their moves.
-ghost use Rattle.std.specs.Prelude.{◌≡◌, ◌+◌, ◌<◌, ◌≤◌, ◌^◌, ℕ, map, IfErr, IfOk, OnOk};
+ghost use Rattle.std.specs.Prelude.{◌+◌, ◌<◌, ◌≤◌, ◌^◌, ℕ, map, IfErr, IfOk, OnOk};
 ghost use Rattle.mc_proto.specs.{Answers.moves_of, Grammar.AreAmong};
 ghost use Rattle.mc_proto.specs.declared.request.Request.TheVariants as requests;
 ghost use Rattle.mc_script.specs.Calls.{Answers, Begins, Breaks, Fails, GoesOn, MayAnswer, SumsUp};

@@ -1,12 +1,12 @@
 //! Runs a script: answers its requests as they come, and prints their texts.
-ghost use Rattle.std.specs.Prelude.{◌≡◌, ◌≤◌, ◌<◌, ◌++◌, ◌^◌, All, List, ℕ, [], None, Some, IfOk, OnErr, OnOk, true, false, length, unwrap_or};
+ghost use Rattle.std.specs.Prelude.{◌≡◌, ◌≤◌, ◌<◌, ◌++◌, ◌^◌, All, List, ℕ, [], IfOk, OnErr, OnOk, unwrap_or};
 ghost use Rattle.mc_proto.specs.{Grammar.IsModerate, Reader.After, Text.IsBeginning};
 ghost use Rattle.mc_script.specs.Calls.{MayAnswer};
 ghost use Rattle.mc_script.specs.Progress.{AreModerate, AsksNothing, Goes, HasAnswered, HasCome, LeavesPiece, outcome_of};
 ghost use Rattle.mc_script.specs.Run.{AreCounted, HasLeft, LeavesCaller, MayRunFrom, MayStart};
 ghost use Rattle.mc_script.specs.Script.{Answered, ends};
 ghost use Rattle.mc_script.specs.declared.outcome.Outcome.TheVariants.{Done};
-ghost use Rattle.mc_proto.specs.declared.{request.Limits.Limits, request.Request.Request};
+ghost use Rattle.mc_proto.specs.declared.request.Request.{Request};
 
 use crate::answering::answer_request;
 use crate::calls::Calls;
@@ -40,18 +40,7 @@ const GATHERED: usize = 65536;
 fn ends_script(request: &Request) -> bool
     ensures { result ≡ ends request.now }
 {
-    match request {
-        Request::Next => true,
-        Request::Quit => true,
-        Request::Get { .. } => false,
-        Request::Gat { .. } => false,
-        Request::One { .. } => false,
-        Request::Bad { .. } => false,
-        Request::At(_) => false,
-        Request::Juggle(_) => false,
-        Request::Crawl(_) => false,
-        Request::Chunks(_, _) => false,
-    }
+    matches!(request, Request::Next | Request::Quit)
 }
 
 // Prints the gathered text, if there is any.
@@ -208,7 +197,7 @@ pub fn run_script<E: Ends, C: Calls>(
         let piece = match ends.piece() {
             Ok(Some(piece)) => piece,
             Ok(None) => return Outcome::Done,
-            Err(fault) => return Outcome::from(fault),
+            Err(_) => return Outcome::Input,
         };
         let requests = match read_piece(&mut reader, piece, ends.keeps_pieces()) {
             Ok(requests) => requests,

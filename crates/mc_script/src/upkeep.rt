@@ -1,5 +1,5 @@
 //! Upkeep: the maintainer and the crawler work on all slab classes, at given moments (times in seconds).
-ghost use Rattle.std.specs.Prelude.{◌≡◌, ◌≤◌, ◌<◌, ◌^◌, ℕ, [], IfErr, OnOk};
+ghost use Rattle.std.specs.Prelude.{◌≡◌, ◌≤◌, ◌^◌, [], IfErr, OnOk};
 ghost use Rattle.std.specs.List.{All};
 ghost use Rattle.mc_script.specs.{Calls.Fails, Calls.GoesOn, Calls.MayAnswer, Run.LeavesCaller, Run.MayStart};
 ghost use Rattle.mc_script.specs.Upkeep.{KeepsUp, WorksAll, directive_of, many_calls, work_of};

@@ -1,9 +1,8 @@
-use Rattle.std.proofs.Common.{◌<◌, ◌++◌, ℕ, [], sym, ◌∙◌, ap, refl, arith, subst, inr}
+use Rattle.std.proofs.Common.{◌<◌, ◌++◌, ℕ, [], ◌∙◌, ap, refl, arith, subst, inr}
 use Rattle.std.specs.Prelude.{All, unwrap_or}
 use Rattle.mc_proto.specs.Grammar.{IsModerate}
 use Rattle.mc_proto.specs.declared.request.Limits.{Limits}
-use Rattle.mc_script.specs.Run.{AreCounted}
-use Rattle.mc_script.specs.declared.{outcome.Outcome.Outcome, outcome.Outcome.TheVariants.Done}
+use Rattle.mc_script.specs.declared.{outcome.Outcome.TheVariants.Done}
 use Rattle.mc_script.proofs.ScriptRunLemmas.{since_none, way_starts, way_out, way_ends, way_runs_out, way_starves, way_comes, way_goes_on, moderate_are}
 use Rattle.mc_script.proofs.MadeCallLemmas.{same_both, same_itself}
 use Rattle.mc_script.proofs.scripting.run_script.Goals as goal
@@ -40,16 +39,15 @@ returns-in-Ok-None-clause-leaves g c =
 pub returns-in-Err-clause-leaves : goal.returns-in-Err-clause-leaves
 returns-in-Err-clause-leaves g c =
     let i = c.loop.invariant in
-    rw c.from.ensures (record {
+    record {
       came = i.came;
       since = since_none g.met.E.Ends.goes_on i.since c.in-Err.ensures.err.1;
       leaves = λ left none. rw c.in-Err.ensures.taken (rw i.same.caller at (way_runs_out i.way i.none left));
-    })
+    }
 
 pub returns-in-Err-clause-counted : goal.returns-in-Err-clause-counted
 returns-in-Err-clause-counted g c =
     let i = c.loop.invariant in
-    subst (λ (o : Outcome). AreCounted o (g.E.Ends.reads c.args.ends.now) (g.E.Ends.reads c.piece.new.self) (g.E.Ends.writes c.args.ends.now) (g.E.Ends.writes c.piece.new.self)) (sym c.from.ensures)
     (subst (λ (n : ℕ). n < g.E.Ends.reads c.piece.new.self) i.reads c.in-Err.ensures.err.0, c.in-Err.ensures.writes ∙ i.writes)
 
 pub returns-in-Err-read_piece-clause-leaves : goal.returns-in-Err-read_piece-clause-leaves
