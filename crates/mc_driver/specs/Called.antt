@@ -55,8 +55,8 @@ pub record AreCalledBy (config : Config) (caller : ℕ) (histories : Histories) 
       → slice_get (histories.classes class) place ≡ Some event → (maker_of event).caller ≡ caller → WasCalled calls class event
 
 -- what is known of a caller's calls: the histories have them in turn, each with all its events, then the beginning of the one that
--- broke off if one did, and the stripes have no other commands of that caller. The caller's own history has just these calls, and
--- each of its events belongs to one of them
+-- broke off if one did, and the stripes have no other commands of that caller. Each event of the caller is of a call of a history that
+-- has just these, in turn
 pub record AreItsCalls (config : Config) (caller : ℕ) (histories : Histories) (calls : List Exchange) (begun : Option Begun) : Type 0 where
   pub stand : Stand (MakesOnly config histories) config histories caller calls begun
   pub only : AreOnly config.stripes caller histories calls
