@@ -18,7 +18,8 @@ use Rattle.mc_store.proofs.{NumberOrderLemmas.get_some, SyncedStepLemmas.map_len
 use Rattle.mc_driver.specs.{Called.AreCalledBy, Called.AreItsCalls, Called.IsCompared, Caller.AreNoted, Caller.EntersOnly, Caller.histories_seen, Caller.places_in, Run.HasFull, Run.IsStore}
 use Rattle.mc_driver.specs.{Run.histories_left, Stand.StandsLast, Stand.Grow, Stand.MakesOnly, Stand.calls_at, Stand.nothing_seen}
 use Rattle.mc_driver.proofs.{NotedPlaceLemmas.at_later, NotedPlaceLemmas.called_place, NotedPlaceLemmas.class_begins, NotedPlaceLemmas.stripe_begins, OnlyCallsLemmas.only_these}
-use Rattle.mc_driver.proofs.{EnteredCallLemmas.some_at, LeftEventLemmas.called_by, LeftEventLemmas.in_class, LeftEventLemmas.in_stripe, StandingCallLemmas.stand_last_by, StandingCallLemmas.stand_last_later, StandingCallLemmas.stand_by}
+use Rattle.mc_driver.proofs.{EnteredCallLemmas.some_at, LeftEventLemmas.called_by, LeftEventLemmas.in_class, LeftEventLemmas.in_stripe}
+use Rattle.mc_driver.proofs.StandingCallLemmas.{stand_by, stand_last_by, stand_last_later}
 
 -- a site by its parts
 site_is : (s : Site) (stripe stripes : ℕ) (sizes : List ℕ) → s.stripe ≡ stripe → s.stripes ≡ stripes → s.sizes ≡ sizes → s ≡ record { stripe = stripe; stripes = stripes; sizes = sizes }
