@@ -1,6 +1,4 @@
 //! Small classes by calls: lists, sums and surveys were worked out by hand.
-use super::WHO;
-use super::deeds::{Call, New, try_force, try_link};
 use super::rows::Ask::{Do, Hit, KeepActive, Reserve, See, SetChunks, Survey, Surveys};
 use super::rows::Deed::{Evict, Force, Link, Reclaim, Refuse, Unlink};
 use super::rows::Sight::{
@@ -12,7 +10,6 @@ use mc_item::Seg::{Cold, Hot, Temp, Warm};
 use mc_item::{ClassNo, Config, Numbers};
 use mc_segment::ClassState;
 use std::alloc::Global;
-use std::process::Abort;
 use std::test::Fail;
 
 /// A class that begins so.
@@ -161,6 +158,19 @@ fn a_class_is_full_by_its_last_limit(rt: HostRuntime) -> Result<(), Fail> {
     play(&rt, rt.alloc(), of(3), LIMITS.as_slice())
 }
 
+// The survey's moment is before the entry's time, and then a second after it.
+static LATER: [Row; 4] = [
+    (Do(Link("a", 66, 1000, Never)), "0"),
+    (Do(Force(1000)), "0"),
+    (Survey(999), "[2, 66, 0]"),
+    (Survey(1001), "[3, 66, 1]"),
+];
+
+#[test]
+fn an_entry_of_a_later_time_has_the_age_0(rt: HostRuntime) -> Result<(), Fail> {
+    play(&rt, rt.alloc(), of(1), LATER.as_slice())
+}
+
 #[test]
 fn a_class_that_lets_its_events_go_answers_as_one_that_keeps_them(
     rt: HostRuntime,
@@ -169,47 +179,6 @@ fn a_class_that_lets_its_events_go_answers_as_one_that_keeps_them(
     play(&rt, rt.alloc(), letting_go(1), TIMES.as_slice())?;
     play(&rt, rt.alloc(), letting_go(3), TAILS.as_slice())?;
     play(&rt, rt.alloc(), letting_go(3), LIMITS.as_slice())
-}
-
-// A class without an entry or an event.
-fn asserts_new<R: Abort>(rt: &R, class: &ClassState) {
-    let events = class.history().len() as u64;
-    assert_eq!(rt; [events, class.count(), class.next_number()], [0, 0, 0]);
-}
-
-// A class whose only event is its entry in HOT.
-fn asserts_linked<R: Abort>(rt: &R, class: &ClassState) {
-    let events = class.history().len() as u64;
-    assert_eq!(rt; [events, class.bytes(Hot), class.bytes(Cold)], [1, 66, 0]);
-}
-
-fn asserts_forced<R: Abort>(rt: &R, class: &ClassState) {
-    assert_eq!(rt; class.bytes(Cold), 66);
-}
-
-// An entry is linked and forced to COLD: a refused growth leaves the class as it was.
-fn link_and_force<R: Abort>(rt: &R, alloc: Global, class: &mut ClassState) {
-    let new = New {
-        key: b"a",
-        cost: 66,
-        moment: 1000,
-        expiry: Never,
-    };
-    if try_link(rt, alloc, class, WHO, new).is_err() {
-        asserts_new(rt, class);
-    } else if try_force(rt, class, Call { who: WHO, at: 0 }, 0, 1000).is_err() {
-        asserts_linked(rt, class);
-    } else {
-        asserts_forced(rt, class);
-    }
-}
-
-// Run with `rt try --test --fail-alloc N` it has each growth of the two calls refused in turn.
-#[test]
-fn a_refused_growth_changes_nothing(rt: HostRuntime) -> Result<(), Fail> {
-    let mut class = class_of(rt.alloc(), of(1))?;
-    link_and_force(&rt, rt.alloc(), &mut class);
-    Ok(())
 }
 
 static FULL: [Row; 7] = [

@@ -1,6 +1,6 @@
 //! Calls of a class, each of which tells the number of its entry, or the place of the event. Where what a call requires
 //! doesn't hold, the test ends.
-ghost use Rattle.std.specs.Prelude.{◌≡◌, ◌≤◌, ◌^◌, Some, true, IfOk};
+ghost use Rattle.std.specs.Prelude.{◌≡◌, ◌≤◌, ◌^◌, Some, true};
 
 use super::WHO;
 use mc_item::{Expiry, Fault, Key, Passed, Seg, Shifted, Who, Why};
@@ -45,22 +45,6 @@ fn asserts_cost<R: Abort>(rt: &R, cost: u64)
 }
 
 /// A new entry in a class with a free chunk.
-pub(super) fn try_link<R: Abort>(
-    rt: &R,
-    alloc: Global,
-    class: &mut ClassState,
-    who: Who,
-    new: New,
-) -> Result<u64, Fault>
-    ensures { IfOk result (λ number. class.new.rule ≡ class.old.rule) }
-{
-    asserts_cost(rt, new.cost);
-    assert!(rt; class.count() < class.chunks());
-    let key = key_for(rt, alloc, class, new.key);
-    class.link(who, key, new.cost, new.moment, new.expiry)
-}
-
-/// A new entry in a class with a free chunk.
 pub(super) fn link<R: Abort>(
     rt: &R,
     alloc: Global,
@@ -70,18 +54,23 @@ pub(super) fn link<R: Abort>(
 ) -> u64
     ensures { class.new.rule ≡ class.old.rule }
 {
-    try_link(rt, alloc, class, who, new).expect(rt, "a link")
+    asserts_cost(rt, new.cost);
+    assert!(rt; class.count() < class.chunks());
+    let key = key_for(rt, alloc, class, new.key);
+    class
+        .link(who, key, new.cost, new.moment, new.expiry)
+        .expect(rt, "a link")
 }
 
-/// The entry at a place from HOT's tail is to go to COLD in a full class.
-pub(super) fn try_force<R: Abort>(
+/// The entry at a place from HOT's tail goes to COLD in a full class.
+pub(super) fn force<R: Abort>(
     rt: &R,
     class: &mut ClassState,
     call: Call,
     j: u64,
     moment: u64,
-) -> Result<u64, Fault>
-    ensures { IfOk result (λ number. class.new.rule ≡ class.old.rule) }
+) -> u64
+    ensures { class.new.rule ≡ class.old.rule }
 {
     let (who, at) = (call.who, call.at);
     assert!(rt; class.is_full() && j <= 4 && j < class.len(Seg::Hot));
@@ -97,23 +86,8 @@ pub(super) fn try_force<R: Abort>(
         passed,
         at,
     };
-    match class.shift(shifted) {
-        Ok(()) => Ok(number),
-        Err(fault) => Err(fault),
-    }
-}
-
-/// The entry at a place from HOT's tail goes to COLD in a full class.
-pub(super) fn force<R: Abort>(
-    rt: &R,
-    class: &mut ClassState,
-    call: Call,
-    j: u64,
-    moment: u64,
-) -> u64
-    ensures { class.new.rule ≡ class.old.rule }
-{
-    try_force(rt, class, call, j, moment).expect(rt, "a forced move")
+    class.shift(shifted).expect(rt, "a forced move");
+    number
 }
 
 /// The entry at a place from HOT's tail is found active.

@@ -1,16 +1,13 @@
-//! Histories counted by one thread, and raced for by three. Figures read while another thread publishes them.
-ghost use Rattle.std.specs.Prelude.{◌≡◌, ◌+◌, ◌*◌, ◌<◌, ◌≤◌, ◌^◌, ◌∷◌, [], None, drop, length, map, false};
-ghost use mathlib.Core.List.{IsPrefix};
-ghost use Rattle.mc_item.specs.declared.event.Event.TheVariants.{Call, Class, Stripe};
+//! Histories counted by one thread, and raced for by three.
+ghost use Rattle.std.specs.Prelude.{◌≡◌, ◌+◌, ◌<◌, ◌≤◌, ◌^◌, ◌∷◌, [], None, length, map};
+ghost use Rattle.mc_item.specs.declared.event.Event.TheVariants.{Call, Stripe};
 ghost use Rattle.mc_evidence.specs.Seen.{class_events};
 ghost use Rattle.mc_board.specs.{Accounts.maker_in, Accounts.AreBy, Views.locks_of};
-ghost use Rattle.mc_list_tests.specs.Rounds.{who_calls, HasRounds};
 
 use super::WHO;
 use mc_board::{Board, Busy, Counts, Figures, Owner, Seen};
 use mc_history::{History, Shows};
-use mc_item::{CallEvent, ClassEvent, ClassNo, Cooled, Key, Logged, Seg, StripeEvent, Who, Worked};
-use mc_segment::ShownClass;
+use mc_item::{CallEvent, ClassNo, Cooled, Key, Logged, StripeEvent, Who, Worked};
 use std::alloc::Global;
 use std::process::Abort;
 use std::snapshot::Snapshot;
@@ -73,17 +70,17 @@ impl Shows<StripeEvent> for ShownEvent {
 
 type StripeHistory = History<StripeEvent, ShownEvent>;
 
-// A stripe's history in which the caller has cooled an item this many times.
-fn cooled(rt: &impl Abort, alloc: Global, times: usize) -> StripeHistory
+// A stripe's history in which this caller has cooled an item this many times.
+fn cooled(rt: &impl Abort, alloc: Global, who: Who, times: usize) -> StripeHistory
     ensures many { length result.items ≡ times }
     ensures plain { class_events (map Stripe result.items) ≡ [] }
-    ensures by { AreBy who_calls (map Stripe result.items) }
+    ensures by { AreBy who (map Stripe result.items) }
 {
     let mut events = History::new(alloc);
     events.reserve(times).expect(rt, "room");
     for _i in 0..times {
         let key = Key::of(alloc, b"a").expect(rt, "a key");
-        let event = StripeEvent::Cooled(Cooled { who: WHO, key });
+        let event = StripeEvent::Cooled(Cooled { who, key });
         events.push_reserved(&ShownEvent(Snapshot::of(&event)), Some(event));
     }
     events
@@ -100,10 +97,9 @@ fn catch_up_cooled(
     requires board { (owner.old.board ≡ board.now.table) × (caller.old.board ≡ board.now.table) }
     requires empty { owner.old.history ≡ [] }
     requires caller { caller.old.first ≡ caller.old.lock }
-    ensures same { (owner.new.board ≡ owner.old.board) × (owner.new.lock ≡ owner.old.lock) }
-    ensures caller { caller.new.board ≡ caller.old.board }
+    ensures { (owner.new.board ≡ owner.old.board) × (owner.new.lock ≡ owner.old.lock) }
 {
-    let events = cooled(rt, alloc, 3);
+    let events = cooled(rt, alloc, WHO, 3);
     owner.catch_up(board, &events, WHO, caller);
 }
 
@@ -204,7 +200,7 @@ fn catch_up_twice<E: Logged + Drop, S: Shows<E> + Drop>(
 // An owner without events catches up with two, each of which is added once.
 #[test]
 fn an_owner_catches_up_with_a_list(rt: HostRuntime) {
-    let events = cooled(&rt, rt.alloc(), 2);
+    let events = cooled(&rt, rt.alloc(), WHO, 2);
     let (board, mut owners, mut token) = Board::open(rt.alloc(), with_caller(3, 0)).expect(
         &rt, "a board",
     );
@@ -315,194 +311,37 @@ fn no_count_falls_while_two_threads_append(rt: HostRuntime) {
     asserts_race(&rt, rising, counts);
 }
 
-type ClassHistory = History<ClassEvent, ShownClass>;
-
-// Plays one round more: an entry of 69 bytes is linked in HOT, and one in COLD. The history lets the events go.
-fn play_round(history: &mut ClassHistory, key: &Key, round: u64)
-    requires room { 1 < history.old.room }
-    requires kept { history.old.kept ≡ false }
-    requires rounds { HasRounds history.old.items round }
-    ensures rounds { HasRounds history.new.items (round + 1) }
-    ensures begins { IsPrefix history.old.items history.new.items }
-    ensures by { AreBy who_calls (drop (length (map Class history.old.items)) (map Class history.new.items)) }
-    ensures room { history.old.room ≡ history.new.room + 2 }
-    ensures kept { history.new.kept ≡ false }
-{
-    let hot = ShownClass::Linked {
-        who: WHO,
-        number: round,
-        key: Snapshot::of(key),
-        cost: 69,
-        seg: Seg::Hot,
-        moment: 0,
-    };
-    history.push_reserved(&hot, None);
-    let cold = ShownClass::Linked {
-        who: WHO,
-        number: round,
-        key: Snapshot::of(key),
-        cost: 69,
-        seg: Seg::Cold,
-        moment: 0,
-    };
-    history.push_reserved(&cold, None);
-}
-
-// The owners of a class's history and of its caller's.
-#[derive(Drop)]
-struct Pair {
-    class: Owner,
-    caller: Owner,
-}
-
-// Plays this many rounds, and publishes the figures after each: 69 bytes more in HOT and in COLD, and one entry more.
-fn publish_rounds(
-    board: &Board,
-    pair: &mut Pair,
-    history: &mut ClassHistory,
-    key: &Key,
-    rounds: u64,
-)
-    requires board { (pair.old.class.board ≡ board.now.table) × (pair.old.caller.board ≡ board.now.table) }
-    requires caller { pair.old.caller.first ≡ pair.old.caller.lock }
-    requires empty { (pair.old.class.history ≡ []) × (history.old.items ≡ []) }
-    requires room { (2 * rounds ≤ history.old.room) × (2 * rounds ≤ 2 ^ 32) }
-    requires kept { history.old.kept ≡ false }
-    ensures same { (pair.new.class.board ≡ pair.old.class.board) × (pair.new.class.lock ≡ pair.old.class.lock) }
-    ensures caller { (pair.new.caller.board ≡ pair.old.caller.board) × (pair.new.caller.first ≡ pair.new.caller.lock) }
-{
-    for round in 0..rounds {
-        play_round(history, key, round);
-        let bytes = 69 * (round + 1);
-        let figures = [bytes, 0, bytes, 0, round + 1, 0, round + 1, 0];
-        pair.class
-            .publish(board, history, &figures, WHO, &mut pair.caller);
-    }
-}
-
-// Whether figures are of a moment between two rounds.
-fn is_of_one_moment(f: &Figures) -> bool {
-    let rounds = f.events / 2;
-    let bytes = rounds.wrapping_mul(69);
-    f.events % 2 == 0 && f.counts == [rounds, 0, rounds, 0] && f.bytes == [bytes, 0, bytes, 0]
-}
-
-// Whether a try gave figures of one moment, or says why not: the owner was writing, or it has written since.
-fn is_right(found: &Result<Figures, Busy>) -> bool {
-    match found {
-        Ok(f) => is_of_one_moment(f),
-        Err(b) if b.first % 2 == 1 => b.last == b.first,
-        Err(b) => b.first < b.last,
-    }
-}
-
-// Tries this many times to read the figures of lock 0, and says whether each answer was right.
-fn read_many(board: &Board, token: &mut Seen, tries: u64) -> bool
-    requires board { token.old.board ≡ board.now.table }
-    requires locks { 0 < locks_of board.now.counts }
-    ensures { token.new.board ≡ token.old.board }
-{
-    let mut right = true;
-    for _i in 0..tries {
-        let found = token.figures(board, 0);
-        right = right && is_right(&found);
-    }
-    right
-}
-
-// One thread publishes figures after each of 500 rounds, and another tries 500 times to read them.
-fn publish_and_read<R: Threads + Sync>(
-    rt: &R,
-    board: &Board,
-    pair: &mut Pair,
-    history: &mut ClassHistory,
-    key: &Key,
-    token: &mut Seen,
-) -> bool
-    requires board { (pair.old.class.board ≡ board.now.table) × (pair.old.caller.board ≡ board.now.table) }
-    requires token { token.old.board ≡ board.now.table }
-    requires locks { 0 < locks_of board.now.counts }
-    requires caller { pair.old.caller.first ≡ pair.old.caller.lock }
-    requires empty { (pair.old.class.history ≡ []) × (history.old.items ≡ []) }
-    requires room { 1000 ≤ history.old.room }
-    requires kept { history.old.kept ≡ false }
-{
-    let (_, right) = thread::join(
-        rt,
-        || publish_rounds(board, pair, history, key, 500),
-        || read_many(board, token, 500),
-    );
-    right
-}
-
-// A try gave these figures.
-fn asserts_figures<R: Abort>(
-    rt: &R,
-    found: Result<Figures, Busy>,
-    events: u64,
-    bytes: [u64; 4],
-    counts: [u64; 4],
-) {
+// A try gave figures after so many events, which are all 0.
+fn asserts_none<R: Abort>(rt: &R, found: Result<Figures, Busy>, events: u64) {
     let wanted = Figures {
         events,
-        bytes,
-        counts,
+        bytes: [0; 4],
+        counts: [0; 4],
     };
     assert_eq!(rt; found, Ok(wanted));
 }
 
-// Every answer was right.
-fn asserts_right<R: Abort>(rt: &R, right: bool) {
-    assert!(rt; right);
-}
-
-// A token that has seen nothing reads the last figures, after 500 rounds of two entries of 69 bytes each.
-#[test]
-fn figures_are_of_one_moment_while_they_are_published(rt: HostRuntime) {
-    let key = Key::of(rt.alloc(), b"a").expect(&rt, "a key");
-    let mut history = History::keeping(rt.alloc(), false);
-    history.reserve(1000).expect(&rt, "room");
-    let (board, mut owners, mut first) = Board::open(rt.alloc(), with_caller(0, 1)).expect(
-        &rt, "a board",
-    );
-    let mut second = first.split(&board);
-    asserts_many(&rt, owners.len(), 2);
-    let caller = owners.pop().expect(&rt, "an owner");
-    let class = owners.pop().expect(&rt, "an owner");
-    let mut pair = Pair { class, caller };
-    let right = publish_and_read(&rt, &board, &mut pair, &mut history, &key, &mut first);
-    asserts_right(&rt, right);
-    let found = second.figures(&board, 0);
-    asserts_figures(&rt, found, 1000, [34_500, 0, 34_500, 0], [500, 0, 500, 0]);
-}
-
-// A class's owner publishes one round, and a stripe's owner adds three events, which leave no figures.
-#[test]
-fn figures_that_were_read_are_compared(rt: HostRuntime) {
-    let key = Key::of(rt.alloc(), b"a").expect(&rt, "a key");
-    let mut history = History::keeping(rt.alloc(), false);
-    history.reserve(2).expect(&rt, "room");
-    let (board, mut owners, mut token) = Board::open(rt.alloc(), with_caller(1, 1)).expect(
-        &rt, "a board",
-    );
-    asserts_many(&rt, owners.len(), 3);
-    let caller = owners.pop().expect(&rt, "an owner");
-    let class = owners.pop().expect(&rt, "an owner");
-    let mut pair = Pair { class, caller };
-    publish_rounds(&board, &mut pair, &mut history, &key, 1);
-    catch_up_cooled(&rt, rt.alloc(), &board, &mut owners[0], &mut pair.caller);
-    asserts_two(&rt, &board, &mut token);
-    pair.class.compare(&board, &mut token);
-}
-
-// The figures of lock 1 are those of a round, and those of lock 0 are of three events that are no class's.
+// Lock 0 has three events, and lock 1 none. Neither has figures.
 fn asserts_two<R: Abort>(rt: &R, board: &Board, token: &mut Seen)
     requires board { token.old.board ≡ board.now.table }
     requires locks { 1 < locks_of board.now.counts }
     ensures { token.new.board ≡ token.old.board }
 {
-    let found = token.figures(board, 1);
-    asserts_figures(rt, found, 2, [69, 0, 69, 0], [1, 0, 1, 0]);
     let found = token.figures(board, 0);
-    asserts_figures(rt, found, 3, [0, 0, 0, 0], [0, 0, 0, 0]);
+    asserts_none(rt, found, 3);
+    let found = token.figures(board, 1);
+    asserts_none(rt, found, 0);
+}
+
+// A stripe's owner adds three events, which leave no figures, and a class has no events. Each is read by one try.
+#[test]
+fn no_lock_is_busy_at_rest(rt: HostRuntime) {
+    let (board, mut owners, mut token) = Board::open(rt.alloc(), with_caller(1, 1)).expect(
+        &rt, "a board",
+    );
+    asserts_many(&rt, owners.len(), 3);
+    let mut caller = owners.pop().expect(&rt, "an owner");
+    catch_up_cooled(&rt, rt.alloc(), &board, &mut owners[0], &mut caller);
+    asserts_two(&rt, &board, &mut token);
+    owners[0].compare(&board, &mut token);
 }

@@ -4,7 +4,6 @@ use Rattle.mc_item.specs.declared.event.Event.{Event}
 use Rattle.mc_item.specs.declared.event.Event.TheVariants.{Stripe}
 use Rattle.mc_board.specs.Accounts.{AreBy}
 use Rattle.mc_board.proofs.PrefixLemmas.{prefix_nil}
-use Rattle.mc_list_tests.specs.Rounds.{who_calls}
 use Rattle.mc_list_tests.proofs.tests.growing_histories.catch_up_cooled.Goals as goal
 
 pub catch_up-requires-clause-behind : goal.catch_up-requires-clause-behind
@@ -15,4 +14,4 @@ catch_up-requires-clause-behind g c =
 pub catch_up-requires-clause-by : goal.catch_up-requires-clause-by
 catch_up-requires-clause-by g c =
     let all = map Stripe c.cooled-events.result.items in
-    (subst (λ (h : List Event). AreBy who_calls (drop (length h) all)) (sym c.requires.empty) c.cooled-events.ensures.by, omega (arith, c.requires.caller))
+    (subst (λ (h : List Event). AreBy (record { caller = 0; turn = 0 }) (drop (length h) all)) (sym c.requires.empty) c.cooled-events.ensures.by, omega (arith, c.requires.caller))
