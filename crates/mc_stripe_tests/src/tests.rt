@@ -2,27 +2,26 @@
 ghost use Rattle.std.specs.Prelude.{◌<◌};
 ghost use Rattle.mc_item.specs.Config.{IsBounded};
 
+mod answering;
 mod answers;
 mod calls;
 mod drawn_tries;
 mod histories;
+mod hits_and_deaths;
 mod items;
 mod noted;
-mod plain;
-mod plain_answers;
 mod rows;
-mod sets;
-mod table;
+mod texts;
 mod tries;
 mod trying;
-mod unheld;
 mod wants;
 
-use mc_item::{Command, Config, Key, Numbers, Value, Verb, Who};
+use mc_item::{Command, Config, Key, Numbers, Value, Verb};
 use std::alloc::Global;
 use std::process::Abort;
 
-const WHO: Who = Who { caller: 0, turn: 0 };
+/// What tests draw by.
+const SEED: u64 = 0;
 
 fn checked<R: Abort>(rt: &R, config: Config) -> Config
     ensures bounded { IsBounded result }
@@ -37,11 +36,11 @@ fn numbers<R: Abort>(rt: &R, alloc: Global, each: &[u64]) -> Numbers {
     Numbers::from_vec(Vec::from_slice(alloc, each).expect(rt, "a list"))
 }
 
-// The configuration of four stripes, with the sizes 66 and 70; a history holds 16 events.
-fn four_stripes<R: Abort>(rt: &R, alloc: Global) -> Config {
+// The configuration of four stripes, with the size 66 and a larger one; a history holds 16 events.
+fn four_stripes<R: Abort>(rt: &R, alloc: Global, largest: u64) -> Config {
     let mut config = Config::usual(alloc, 1).expect(rt, "a configuration");
     config.stripes = 4;
-    config.sizes = numbers(rt, alloc, &[66, 70]);
+    config.sizes = numbers(rt, alloc, &[66, largest]);
     config.chunks = numbers(rt, alloc, &[4, 4]);
     config.max_events = 16;
     config

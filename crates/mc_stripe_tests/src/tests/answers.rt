@@ -1,35 +1,16 @@
 //! The table of commands, row by row, after five versions of stripe 1 of 4, at the moment 1000: what a command wants, its reply,
 //! and the item that it leaves. Each row was worked out by hand from protocol.txt. An item of the key `b` costs 65 bytes and
 //! those of its value; class 1 has 66 bytes, class 2 has 70.
-use super::Asked::{Decr, Delete, Gat, Get, Huge, Incr, StoreUntil, Touch};
-use super::calls::asserts_owned;
-use super::plain::{text, text_of_item};
-use super::trying::Held::{Both, Home, Nothing, Other};
+use super::Asked::{self, Decr, Delete, Gat, Get, Huge, Incr, StoreUntil, Touch};
+use super::answering::{NOTHING, Row, There, check_rows};
+use super::trying::Held::{self, Both, Home, Nothing, Other};
 use super::trying::Lent::{Link, Refusal};
-use super::trying::{Held, events, given_of, opened, text_of_try};
-use super::wants::{Told, check_want};
-use super::{Asked, WHO, value};
-use mc_item::{ClassNo, Command, Key, Verb};
-use mc_stripe::{Classes, StripeState, Turn, Want};
-use mc_testing::may_give;
-use std::alloc::Global;
-use std::process::Abort;
-use std::random::RandomSource;
-
-// The item that is there, if one is: its value, and whether it was hit. It has the flags 5, the cas number 6 and the link 1.
-type There = Option<(&'static str, bool)>;
-
-// What is there, a command, what it holds, what it wants if it holds nothing, and its reply and what it leaves.
-type Row = (There, Asked, Held, Classes, &'static str);
+use mc_item::{ClassNo, Verb};
+use mc_stripe::Classes;
 
 const ABSENT: There = None;
 
 const OLD: There = Some(("o", false));
-
-const NOTHING: Classes = Classes {
-    home: None,
-    other: None,
-};
 
 // A chunk of class 1, and one of class 2, in place of no item or one of the same class.
 const CHUNK: Classes = Classes {
@@ -95,7 +76,7 @@ static STORAGE: [Row; 13] = [
 ];
 
 #[test]
-fn storage(rt: HostRuntime) {
+fn storage_commands_follow_the_table(rt: HostRuntime) {
     check_rows(&rt, rt.alloc(), STORAGE.as_slice());
 }
 
@@ -156,7 +137,7 @@ static LARGE: [Row; 13] = [
 ];
 
 #[test]
-fn large_values(rt: HostRuntime) {
+fn what_is_too_large_is_refused_and_a_set_removes_the_item(rt: HostRuntime) {
     check_rows(&rt, rt.alloc(), LARGE.as_slice());
 }
 
@@ -171,8 +152,9 @@ const FOUR: There = Some(("2345", false));
 const FIVE: There = Some(("23456", false));
 
 // Data goes behind the old value or before it, and the new version keeps the old flags and expiry. A hit of the item is an event.
-static JOINED: [Row; 12] = [
+static JOINED: [Row; 13] = [
     (ABSENT, APPEND, Nothing, NOTHING, "NotStored; none"),
+    (ABSENT, PREPEND, AT, NOTHING, "NotStored; none"),
     (
         ABSENT,
         StoreUntil(Verb::Prepend, SIX, 10),
@@ -235,17 +217,20 @@ static JOINED: [Row; 12] = [
 ];
 
 #[test]
-fn joined_values(rt: HostRuntime) {
+fn joined_values_are_new_versions(rt: HostRuntime) {
     check_rows(&rt, rt.alloc(), JOINED.as_slice());
 }
 
 const X: There = Some(("x", false));
 
+const ONE_X: There = Some(("1x", false));
+
 const NINE: There = Some(("9", false));
 
-static COUNTS: [Row; 9] = [
+static COUNTS: [Row; 10] = [
     (X, Incr(1), Nothing, NOTHING, "NonNumeric; the same"),
     (X, Decr(1), Nothing, NOTHING, "NonNumeric; the same"),
+    (ONE_X, Incr(1), Nothing, NOTHING, "NonNumeric; the same"),
     (
         NINE,
         Incr(1),
@@ -298,7 +283,7 @@ static COUNTS: [Row; 9] = [
 ];
 
 #[test]
-fn counts(rt: HostRuntime) {
+fn numbers_are_padded_and_grow(rt: HostRuntime) {
     check_rows(&rt, rt.alloc(), COUNTS.as_slice());
 }
 
@@ -312,7 +297,7 @@ static LONGER: [Row; 1] = [(
 )];
 
 #[test]
-fn a_number_too_long_for_each_class(rt: HostRuntime) {
+fn a_number_too_long_for_each_class_finds_no_space(rt: HostRuntime) {
     check_rows(&rt, rt.alloc(), LONGER.as_slice());
 }
 
@@ -326,7 +311,7 @@ static OF_NONE: [Row; 6] = [
 ];
 
 #[test]
-fn absent_items(rt: HostRuntime) {
+fn of_an_absent_item_nothing_is_found(rt: HostRuntime) {
     check_rows(&rt, rt.alloc(), OF_NONE.as_slice());
 }
 
@@ -381,94 +366,4 @@ static FOUND: [Row; 7] = [
 #[test]
 fn items_that_are_there(rt: HostRuntime) {
     check_rows(&rt, rt.alloc(), FOUND.as_slice());
-}
-
-// A version of the item of a key of stripe 1 of 4, of these flags. A value of one byte is of class 1, and one of two to five
-// bytes is of class 2. The link has the number of the event.
-fn set<R: Abort>(
-    rt: &R,
-    alloc: Global,
-    stripe: &mut StripeState,
-    key: &[u8],
-    flags: u32,
-    text: &str,
-) {
-    let key = Key::of(alloc, key).expect(rt, "a key");
-    let value = value(rt, alloc, text);
-    let command = Command::Store {
-        verb: Verb::Set,
-        key,
-        flags,
-        exptime: 0,
-        value,
-    };
-    let class = if text.len() < 2 { 1 } else { 2 };
-    let given = given_of(Home(class, Link, 2), events(stripe));
-    let turn = Turn {
-        who: WHO,
-        moment: 1000,
-    };
-    asserts_owned(rt, stripe, &command, 1000);
-    assert!(rt; may_give(given, stripe.history()));
-    let got = stripe
-        .attempt(&command, turn, &given)
-        .expect(rt, "no fault");
-    assert!(rt; got.is_ok());
-}
-
-// Stripe 1 of 4 after five versions: the second is of the key `b`, where an item is there, and the others are of the key `f`.
-fn begun<R: Abort + RandomSource>(rt: &R, alloc: Global, there: There) -> StripeState {
-    let mut stripe = opened(rt, alloc);
-    set(rt, alloc, &mut stripe, b"f", 0, "1");
-    match there {
-        None => set(rt, alloc, &mut stripe, b"f", 0, "1"),
-        Some((text, _)) => set(rt, alloc, &mut stripe, b"b", 5, text),
-    }
-    for _ in 0..3 {
-        set(rt, alloc, &mut stripe, b"f", 0, "1");
-    }
-    if let Some((_, true)) = there {
-        let _hit = text_of_try(rt, alloc, &mut stripe, WHO, Get, 1000, Nothing);
-    }
-    stripe
-}
-
-// The reply to a command that was made, and what it left of the item that was there before.
-fn answer_text<R: Abort>(
-    rt: &R,
-    alloc: Global,
-    stripe: &StripeState,
-    got: &Told,
-    before: &str,
-) -> String {
-    let now = text_of_item(rt, alloc, stripe);
-    let left = if now.as_str() == before && before != "none" {
-        "the same"
-    } else {
-        now.as_str()
-    };
-    match got {
-        Ok(Ok(done)) => format!(in alloc; "{:?}; {left}", done.reply).expect(rt, "a text"),
-        Ok(Err(_)) | Err(_) => text(rt, alloc, "not made"),
-    }
-}
-
-// Ends the test where a row tells something else.
-fn check_row<R: Abort + RandomSource>(rt: &R, alloc: Global, row: &Row, place: usize) {
-    let (there, asked, held, classes, wanted) = *row;
-    let mut stripe = begun(rt, alloc, there);
-    let before = text_of_item(rt, alloc, &stripe);
-    if classes != NOTHING {
-        let got = text_of_try(rt, alloc, &mut stripe, WHO, asked, 1000, Nothing);
-        check_want(rt, &got, Want::Classes(classes));
-    }
-    let got = text_of_try(rt, alloc, &mut stripe, WHO, asked, 1000, held);
-    let answer = answer_text(rt, alloc, &stripe, &got, before.as_str());
-    assert_eq!(rt; answer.as_str(), wanted, "at row {place}");
-}
-
-fn check_rows<R: Abort + RandomSource>(rt: &R, alloc: Global, rows: &[Row]) {
-    for (place, row) in rows.iter().enumerate() {
-        check_row(rt, alloc, row, place);
-    }
 }

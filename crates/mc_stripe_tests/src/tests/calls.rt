@@ -4,12 +4,12 @@ ghost use Rattle.mc_item.specs.{Command.key_of, Measure.stripe_of, Stripe.IsDead
 ghost use Rattle.mc_stripe.specs.StripeState.{cache_now};
 
 use super::noted::reply_in;
-use super::plain::{classes_of, reply_text, text};
-use super::trying::{Held, Lent, held_for, text_of_try, want_text};
-use super::{Asked, WHO, b, command_of};
-use mc_item::{ClassNo, Command, Fault, Key, Link, Verb, Who};
-use mc_stripe::{Done, Fate, Given, StripeState, Turn, Want};
-use mc_testing::is_dead;
+use super::texts::{reply_text, text};
+use super::trying::{Held, Lent, held_of, try_command, want_text};
+use super::{Asked, b};
+use mc_item::{ClassNo, Command, Fault, Key, Who};
+use mc_stripe::{Done, Given, StripeState, Turn, Want};
+use mc_testing::{WHO, is_dead};
 use std::alloc::Global;
 use std::process::Abort;
 
@@ -22,8 +22,27 @@ pub(super) fn asserts_owned<R: Abort>(rt: &R, stripe: &StripeState, command: &Co
     assert!(rt; stripe.owns(command.key()));
 }
 
-/// The reply to a caller's command, which is given all that it may want; or what is wanted, or the fault. A class gives the
-/// link that has the number of the event; where it is full, a refusal.
+// What a caller's command tells, which is given the classes that it wants.
+fn try_with_classes<R: Abort>(
+    rt: &R,
+    alloc: Global,
+    stripe: &mut StripeState,
+    who: Who,
+    asked: Asked,
+    moment: u64,
+    lent: Lent,
+) -> Result<Result<Done, Want>, Fault> {
+    match try_command(rt, alloc, stripe, who, asked, moment, Held::Nothing) {
+        Ok(Err(Want::Classes(classes))) => {
+            let held = held_of(classes, lent, 2);
+            try_command(rt, alloc, stripe, who, asked, moment, held)
+        }
+        told => told,
+    }
+}
+
+/// The reply to a caller's command, which is given the classes that it wants; or what else is wanted, or the fault. A class gives
+/// the link that has the number of the event; where it is full, a refusal.
 pub(super) fn text_of_reply<R: Abort>(
     rt: &R,
     alloc: Global,
@@ -34,8 +53,7 @@ pub(super) fn text_of_reply<R: Abort>(
     full: bool,
 ) -> String {
     let lent = if full { Lent::Refusal } else { Lent::Link };
-    let held = held_for(rt, alloc, stripe, asked, lent);
-    match text_of_try(rt, alloc, stripe, who, asked, moment, held) {
+    match try_with_classes(rt, alloc, stripe, who, asked, moment, lent) {
         Ok(Ok(done)) => reply_text(rt, alloc, &done.reply),
         Ok(Err(want)) => want_text(rt, alloc, want),
         Err(fault) => fault_text(rt, alloc, fault),
@@ -54,77 +72,6 @@ pub(super) fn text_of_last<R: Abort>(rt: &R, alloc: Global, stripe: &StripeState
         Some(event) => reply_in(rt, alloc, event),
         None => text(rt, alloc, "none"),
     }
-}
-
-// A link's text, where there is one.
-fn link_text<R: Abort>(rt: &R, alloc: Global, link: Option<Link>) -> String {
-    match link {
-        Some(Link { class, number }) => {
-            format!(in alloc; "{number} of class {}", class.0).expect(rt, "a text")
-        }
-        None => text(rt, alloc, "no link"),
-    }
-}
-
-// What the try of a command that is given nothing tells, after which the history has this last reply.
-fn unheld_text<R: Abort>(
-    rt: &R,
-    alloc: Global,
-    got: &Result<Result<Done, Want>, Fault>,
-    last: &str,
-) -> String {
-    match got {
-        Ok(Ok(done)) => reply_text(rt, alloc, &done.reply),
-        Ok(Err(_)) => format!(in alloc; "given back after {last}").expect(rt, "a text"),
-        Err(fault) => fault_text(rt, alloc, *fault),
-    }
-}
-
-/// The reply to a command that is given nothing; or that it was given back, and the last reply; or the fault.
-pub(super) fn text_of_unheld<R: Abort>(
-    rt: &R,
-    alloc: Global,
-    stripe: &mut StripeState,
-    asked: Asked,
-    moment: u64,
-) -> String {
-    let got = text_of_try(rt, alloc, stripe, WHO, asked, moment, Held::Nothing);
-    let last = text_of_last(rt, alloc, stripe);
-    unheld_text(rt, alloc, &got, last.as_str())
-}
-
-// The link of the item that a new version replaced.
-fn replaced(fate: Fate) -> Option<Link> {
-    match fate {
-        Fate::Renewed { old, .. } => old,
-        Fate::Untouched | Fate::Goes(_) | Fate::Woken(_) => None,
-    }
-}
-
-// What comes of a set.
-fn set_text<R: Abort>(rt: &R, alloc: Global, got: &Result<Result<Done, Want>, Fault>) -> String {
-    match got {
-        Ok(Ok(done)) => link_text(rt, alloc, replaced(done.fate)),
-        Ok(Err(_)) => text(rt, alloc, "given back"),
-        Err(fault) => fault_text(rt, alloc, *fault),
-    }
-}
-
-/// Sets the key `b` to a text, where just the class of the new version is held, which gives the link that has the number of
-/// the event. Tells the link that was replaced, or that the command was given back; or the fault.
-pub(super) fn text_of_set<R: Abort>(
-    rt: &R,
-    alloc: Global,
-    stripe: &mut StripeState,
-    set: &'static str,
-    moment: u64,
-) -> String {
-    let asked = Asked::Store(Verb::Set, set);
-    let command = command_of(rt, alloc, asked);
-    let class = classes_of(stripe, &command).home.expect(rt, "a class");
-    let held = Held::Home(class.0, Lent::Link, 2);
-    let got = text_of_try(rt, alloc, stripe, WHO, asked, moment, held);
-    set_text(rt, alloc, &got)
 }
 
 // Whether the key's item has the mark ACTIVE.

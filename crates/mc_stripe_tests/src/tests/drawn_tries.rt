@@ -1,17 +1,25 @@
-//! Commands that are drawn one after another: a command is given what its tries want, and no more, until it is made, and
-//! each try is held against the plain program of the table.
-use super::Asked::{Decr, Delete, Gat, Get, Huge, Incr, Store, StoreUntil, Touch};
-use super::calls::expire;
-use super::trying::{Held, Lent, held_of, opened, text_of_try};
-use super::{Asked, WHO};
-use mc_item::Verb;
+//! Commands that are drawn one after another: a command is given what its tries want, and no more, until it is made. A plain
+//! memcached answers it too.
+use super::Asked::{self, Decr, Delete, Gat, Get, Huge, Incr, Store, StoreUntil, Touch};
+use super::calls::{expire, is_dead_at};
+use super::texts::reply_text;
+use super::trying::{Held, Lent, held_of, opened_up_to, try_command};
+use super::{SEED, b, command_of};
+use mc_item::{Cause, Reply, Verb};
 use mc_stripe::{StripeState, Want};
-use mc_testing::Dice;
+use mc_testing::{Dice, Plain, WHO};
 use std::alloc::Global;
 use std::process::Abort;
 use std::random::RandomSource;
 
-static ASKS: [Asked; 24] = [
+// The bytes of the largest chunk. With the key `b` it holds a value of 55 bytes.
+const LARGEST: u64 = 120;
+
+const LONG: &str = "xxxxxxxxxxxxxxxxxxxxxxxxxxxxxxxxxxxxxxxxxxxxxxxxxxxxxxx";
+
+const TOO_LONG: &str = "xxxxxxxxxxxxxxxxxxxxxxxxxxxxxxxxxxxxxxxxxxxxxxxxxxxxxxxx";
+
+static ASKS: [Asked; 26] = [
     Get,
     Get,
     Touch(2),
@@ -29,12 +37,14 @@ static ASKS: [Asked; 24] = [
     Store(Verb::Replace, "14"),
     Store(Verb::Cas(2), "6"),
     Store(Verb::Cas(6), "15"),
-    Store(Verb::Set, "123456"),
+    Store(Verb::Set, LONG),
+    Store(Verb::Set, TOO_LONG),
     Huge(Verb::Set),
     Huge(Verb::Add),
     Gat(3),
     Store(Verb::Append, "1"),
     Store(Verb::Append, ""),
+    Store(Verb::Append, LONG),
     StoreUntil(Verb::Prepend, "12", 2),
 ];
 
@@ -75,62 +85,130 @@ fn held_with(held: Held, want: Want, lent: Lent) -> Held {
     }
 }
 
-// Whether a command is made within seven tries: a burial, the classes, a room and three places may be wanted before.
-fn makes<R: Abort>(
+// A stripe, and the plain memcached beside it.
+#[derive(Drop)]
+struct Beside {
+    stripe: StripeState,
+    plain: Plain,
+}
+
+// The item of the key `b` goes, which is dead in the plain memcached too.
+fn bury<R: Abort>(rt: &R, alloc: Global, beside: &mut Beside, moment: u64) {
+    expire(rt, alloc, &mut beside.stripe, WHO, moment);
+    assert!(rt; beside.plain.lose(b"b", Cause::Expired(moment)));
+}
+
+// The reply to a command that is made within seven tries: a burial, the classes, a room and three places may be wanted before.
+fn reply_to<R: Abort>(
     rt: &R,
     alloc: Global,
-    stripe: &mut StripeState,
-    asked: Asked,
+    beside: &mut Beside,
+    drawn: Drawn,
     moment: u64,
-    lent: Lent,
-) -> bool {
+) -> Option<Reply> {
+    let Drawn { asked, lent } = drawn;
     let mut held = Held::Nothing;
     for _ in 0..7 {
-        match text_of_try(rt, alloc, stripe, WHO, asked, moment, held) {
-            Ok(Ok(_)) => return true,
+        match try_command(rt, alloc, &mut beside.stripe, WHO, asked, moment, held) {
+            Ok(Ok(done)) => return Some(done.reply),
             Ok(Err(want)) => {
                 if let Want::Burial(_) = want {
-                    expire(rt, alloc, stripe, WHO, moment);
+                    bury(rt, alloc, beside, moment);
                 }
                 held = held_with(held, want, lent);
             }
-            Err(_) => return false,
+            Err(_) => return None,
         }
     }
-    false
+    None
+}
+
+// A command, and what the class of its new version lends.
+#[derive(Clone, Copy)]
+struct Drawn {
+    asked: Asked,
+    lent: Lent,
 }
 
 // A command that is drawn.
-fn drawn(dice: &mut Dice) -> (Asked, Lent) {
-    let asked = ASKS[dice.below(24) as usize];
+fn draw(dice: &mut Dice) -> Drawn {
+    let asked = ASKS[dice.below(26) as usize];
     let lent = match dice.below(4) {
         0 => Lent::Refusal,
         _ => Lent::Link,
     };
-    (asked, lent)
+    Drawn { asked, lent }
 }
 
-// Ends the test where a command that is drawn by this seed isn't made. Each takes two events at most.
+// The reply that shows the item of the key `b`.
+fn shown<R: Abort>(rt: &R, alloc: Global, stripe: &StripeState) -> Reply {
+    let key = b(rt, alloc);
+    match stripe.find(&key) {
+        None => Reply::Miss,
+        Some(item) => Reply::Value {
+            flags: item.flags,
+            value: item.value.copy().expect(rt, "a value"),
+            cas: item.cas,
+        },
+    }
+}
+
+// Ends the test where the plain memcached replies something else.
+fn check_reply<R: Abort>(
+    rt: &R,
+    alloc: Global,
+    plain: &mut Plain,
+    drawn: Drawn,
+    moment: u64,
+    reply: &Reply,
+) {
+    let refused = match drawn.lent {
+        Lent::Refusal => true,
+        Lent::Link | Lent::Nothing => false,
+    };
+    let command = command_of(rt, alloc, drawn.asked);
+    let wanted = plain.answer(&command, moment, refused).expect(rt, "memory");
+    let got = reply_text(rt, alloc, reply);
+    let wanted = reply_text(rt, alloc, &wanted);
+    assert_eq!(rt; got.as_str(), wanted.as_str(), "to {command:?}");
+}
+
+const SHOWN: Drawn = Drawn {
+    asked: Get,
+    lent: Lent::Link,
+};
+
+// Ends the test where a command isn't made, or the plain memcached replies something else, or has another item then.
+fn check_drawn<R: Abort>(rt: &R, alloc: Global, beside: &mut Beside, drawn: Drawn, moment: u64) {
+    let reply = reply_to(rt, alloc, beside, drawn, moment).expect(rt, "a reply");
+    check_reply(rt, alloc, &mut beside.plain, drawn, moment, &reply);
+    if !is_dead_at(rt, alloc, &beside.stripe, moment) {
+        let item = shown(rt, alloc, &beside.stripe);
+        check_reply(rt, alloc, &mut beside.plain, SHOWN, moment, &item);
+    }
+}
+
+// Draws commands by a seed. Each takes two events at most.
 fn play<R: Abort + RandomSource>(rt: &R, alloc: Global, seed: u64) {
     let mut dice = Dice::new(seed);
-    let mut stripe = opened(rt, alloc);
+    let mut beside = Beside {
+        stripe: opened_up_to(rt, alloc, LARGEST),
+        plain: Plain::new(alloc, 1, 4),
+    };
     let mut moment = 1000u64;
     for _ in 0..15 {
-        if stripe.history().len() > 14 {
+        if beside.stripe.history().len() > 14 {
             return;
         }
-        let (asked, lent) = drawn(&mut dice);
+        let drawn = draw(&mut dice);
         moment = u64::min(moment.saturating_add(dice.below(2)), 2000);
-        assert!(rt;
-            makes(rt, alloc, &mut stripe, asked, moment, lent),
-            "by seed {seed}"
-        );
+        check_drawn(rt, alloc, &mut beside, drawn, moment);
     }
 }
 
 #[test]
 fn a_command_is_made_once_it_has_what_it_wants(rt: HostRuntime) {
-    for seed in 0..40 {
-        play(&rt, rt.alloc(), seed);
+    for number in 0..40 {
+        play(&rt, rt.alloc(), SEED.wrapping_add(number));
     }
 }

@@ -1,26 +1,26 @@
 //! What stands in a history, how many events it holds, and which keys are of a stripe.
 use super::Asked::{Get, Store, Touch};
 use super::rows::Ask::{
-    Answer, Cool, Events, GetAndCool, Last, Misses, Number, Owns, Reserve, Turn, Unheld,
+    Answer, Cool, Events, GetAndCool, Last, Misses, Number, Owns, Reserve, Turn,
 };
 use super::rows::{Row, play};
 use mc_item::Verb;
 
 const FIVE: &str = "Value { flags: 7, value: Value { bytes: [53] }, cas: 2 }";
 
-const AFTER_FIVE: &str =
-    "given back after Value { flags: 7, value: Value { bytes: [53] }, cas: 2 }";
+const BURIAL: &str = "Burial(Link { class: ClassNo(1), number: 0 })";
 
+// What is wanted doesn't stand there.
 static STANDING: [Row; 13] = [
     (Last, "none"),
     (Answer(Store(Verb::Set, "5")), "Stored"),
     (Last, "Stored"),
-    (Unheld(Touch(100), 1000), "Touched"),
+    (Answer(Touch(100)), "Touched"),
     (Last, "Touched"),
     (Answer(Get), FIVE),
-    (Unheld(Get, 1000), FIVE),
+    (Answer(Get), FIVE),
     (Last, FIVE),
-    (Unheld(Get, 1100), AFTER_FIVE),
+    (Turn(100, Get), BURIAL),
     (Events, "4"),
     (Last, FIVE),
     (Cool(1), "cooled"),

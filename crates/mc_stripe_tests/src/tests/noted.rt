@@ -1,20 +1,36 @@
 //! Each kind of event, read back from a history.
 use super::Asked::{Decr, Delete, Gat, Get, Huge, Incr, StoreUntil, Touch};
-use super::plain::{reply_text, text};
 use super::rows::Ask::{Cool, Event, Events, Expire, FullTurn, Take, Turn};
 use super::rows::{Row, play};
-use mc_item::{Cooled, Did, Lost, StripeEvent, Verb};
-use mc_stripe::StripeState;
+use super::texts::{reply_text, text};
+use mc_item::{Command, Cooled, Did, Lost, Reply, Room, StripeEvent, Verb};
+use mc_stripe::{StripeState, Turn as Called};
 use std::alloc::Global;
 use std::process::Abort;
 
-/// The event of a command, in short.
-pub(super) fn did_text<R: Abort>(rt: &R, alloc: Global, did: &Did) -> String {
+/// The event of a command, in short: who asked it when, its reply, and the room that it took.
+pub(super) fn command_text<R: Abort>(
+    rt: &R,
+    alloc: Global,
+    turn: Called,
+    command: &Command,
+    reply: &Reply,
+    room: Room,
+) -> String {
+    let Called { who, moment } = turn;
     format!(in alloc;
-        "caller {}, turn {}, moment {}: {:?}; {:?}; {:?}",
-        did.who.caller, did.who.turn, did.moment, did.command, did.reply, did.room
+        "caller {}, turn {}, moment {moment}: {command:?}; {reply:?}; {room:?}",
+        who.caller, who.turn
     )
     .expect(rt, "a text")
+}
+
+fn did_text<R: Abort>(rt: &R, alloc: Global, did: &Did) -> String {
+    let turn = Called {
+        who: did.who,
+        moment: did.moment,
+    };
+    command_text(rt, alloc, turn, &did.command, &did.reply, did.room)
 }
 
 fn lost_text<R: Abort>(rt: &R, alloc: Global, lost: &Lost) -> String {

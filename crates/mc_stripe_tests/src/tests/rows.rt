@@ -1,14 +1,14 @@
 //! A test of stripe 1 of 4 is a list of rows: what is done or looked at, and what it tells.
+use super::Asked;
 use super::calls::{
     cool, cools_without_memory, expire, is_b_active, is_dead_at, take, text_of_last, text_of_reply,
-    text_of_set, text_of_unheld,
 };
 use super::noted::text_of_event;
-use super::plain::{text, text_of_item};
+use super::texts::{text, text_of_item};
 use super::trying::opened;
-use super::{Asked, WHO};
 use mc_item::{Key, Who};
 use mc_stripe::StripeState;
+use mc_testing::WHO;
 use std::alloc::Global;
 use std::process::Abort;
 use std::random::RandomSource;
@@ -16,20 +16,14 @@ use std::random::RandomSource;
 /// What a row does or looks at. The moment is 1000 where none is named.
 #[derive(Clone, Copy)]
 pub(super) enum Ask {
-    // A command that is given all that it may want: its reply.
+    // A command that is given the classes that it wants: its reply, what else is wanted, or the fault.
     Answer(Asked),
-    // The same where the class is full.
-    Full(Asked),
-    // A command of caller 9 in this turn, as many seconds behind the moment 1000: its reply, or the fault.
+    // The same of caller 9 in this turn, as many seconds behind the moment 1000.
     Turn(u32, Asked),
     // The same where the class is full.
     FullTurn(u32, Asked),
     // So many gets: how many of them missed.
     Misses(u32),
-    // A command at a moment that is given nothing: its reply, or that it was given back.
-    Unheld(Asked, u64),
-    // A set of this text at a moment, where just the class of the new version is held: the link that was replaced.
-    Set(&'static str, u64),
     // Room for so many events.
     Reserve(usize),
     // The item's mark is cleared by caller 9 in this turn.
@@ -156,12 +150,9 @@ fn keep_up<R: Abort>(rt: &R, alloc: Global, stripe: &mut StripeState, ask: Ask) 
 fn tell<R: Abort>(rt: &R, alloc: Global, stripe: &mut StripeState, ask: Ask) -> String {
     match ask {
         Ask::Answer(asked) => text_of_reply(rt, alloc, stripe, WHO, asked, 1000, false),
-        Ask::Full(asked) => text_of_reply(rt, alloc, stripe, WHO, asked, 1000, true),
         Ask::Turn(turn, asked) => text_of_turn(rt, alloc, stripe, turn, asked, false),
         Ask::FullTurn(turn, asked) => text_of_turn(rt, alloc, stripe, turn, asked, true),
         Ask::Misses(gets) => text_of_misses(rt, alloc, stripe, gets),
-        Ask::Unheld(asked, moment) => text_of_unheld(rt, alloc, stripe, asked, moment),
-        Ask::Set(set, moment) => text_of_set(rt, alloc, stripe, set, moment),
         _ => keep_up(rt, alloc, stripe, ask),
     }
 }

@@ -1,16 +1,14 @@
-//! Tries of commands on an absent, a live and a dead item: each reply, what is wanted, and what becomes of chunks was worked
-//! out by hand from the table of commands. An item of the key `b` costs 65 bytes and those of its value; class 1 has 66 bytes,
+//! Tries of commands on an absent item and on a live one: each reply, what is wanted, and what becomes of chunks was worked out
+//! by hand from the table of commands. An item of the key `b` costs 65 bytes and those of its value; class 1 has 66 bytes,
 //! class 2 has 70.
-use super::Asked::{Decr, Delete, Gat, Get, Huge, Incr, Store, StoreUntil, Touch};
-use super::calls::expire;
+use super::Asked::{self, Decr, Delete, Gat, Get, Huge, Incr, Store, Touch};
 use super::trying::Held::{Both, Home, Nothing, Other};
 use super::trying::Lent::{Link as Chunk, Nothing as Keep, Refusal};
 use super::trying::Told::{Fails, Made, Wants};
 use super::trying::{Row, Told, check_tries, opened};
-use super::{Asked, WHO};
 use mc_item::{ClassNo, Expiry, Fault, Link, Verb};
-use mc_stripe::Fate::{Goes, Renewed, Untouched, Woken};
-use mc_stripe::Want::{Burial, Place, Room};
+use mc_stripe::Fate::{Goes, Renewed, Untouched};
+use mc_stripe::Want::{Place, Room};
 use mc_stripe::{Classes, Fate, StripeState, Want};
 use std::alloc::Global;
 use std::process::Abort;
@@ -81,28 +79,15 @@ const SECOND_ITEM: Want = Want::Classes(Classes {
     other: Some(ClassNo(2)),
 });
 
-// The first event of a test: a set, of an item that never dies, and of one that dies at the moment 1100.
-const NINE: Row = (
+/// The first event of a test: a set of an item that never dies.
+pub(super) const NINE: Row = (
     Store(Verb::Set, "9"),
     Home(1, Chunk, 1),
     Made("Stored", Chunk, NEW_1),
 );
 
-const NINE_UNTIL: Row = (
-    StoreUntil(Verb::Set, "9", 100),
-    Home(1, Chunk, 1),
-    Made(
-        "Stored",
-        Chunk,
-        Renewed {
-            cost: 66,
-            expiry: Expiry::At(1100),
-            old: None,
-        },
-    ),
-);
-
-const MISS: Row = (Get, Nothing, Made("Miss", Keep, Untouched));
+/// A get of an absent key.
+pub(super) const MISS: Row = (Get, Nothing, Made("Miss", Keep, Untouched));
 
 static ABSENT: [Row; 20] = [
     MISS,
@@ -163,43 +148,6 @@ static ABSENT: [Row; 20] = [
 fn an_absent_key_wants_a_class_only_for_what_is_stored(rt: HostRuntime) {
     let mut stripe = opened(&rt, rt.alloc());
     check_tries(&rt, rt.alloc(), &mut stripe, 1000, ABSENT.as_slice());
-}
-
-const NINE_SHOWN: &str = "Value { flags: 7, value: Value { bytes: [57] }, cas: 10 }";
-
-// The first hit leaves the mark FETCHED, the second one ACTIVE; no more does a third. What is held is of no matter to a hit.
-static LIVE: [Row; 13] = [
-    NINE,
-    (
-        Store(Verb::Add, "8"),
-        Home(1, Keep, 0),
-        Made("NotStored", Keep, Untouched),
-    ),
-    (
-        Store(Verb::Cas(3), "8"),
-        Nothing,
-        Made("Exists", Keep, Untouched),
-    ),
-    (Huge(Verb::Add), Nothing, Made("TooLarge", Keep, Untouched)),
-    (
-        Store(Verb::Replace, "123456"),
-        Nothing,
-        Made("TooLarge", Keep, Untouched),
-    ),
-    (Incr(999_991), Nothing, Made("NoSpace", Keep, Untouched)),
-    (Decr(1), Nothing, Made("Number(8)", Keep, Untouched)),
-    (Incr(1), Nothing, Made("Number(9)", Keep, Untouched)),
-    (Get, Nothing, Made(NINE_SHOWN, Keep, Untouched)),
-    (Get, Nothing, Made(NINE_SHOWN, Keep, Woken(OLD))),
-    (Get, Home(1, Chunk, 0), Made(NINE_SHOWN, Keep, Untouched)),
-    (Touch(0), Other(1, 0), Made("Touched", Keep, Untouched)),
-    (Touch(100), Nothing, Made("Touched", Keep, Untouched)),
-];
-
-#[test]
-fn the_hit_that_wakes_an_item_wants_no_class(rt: HostRuntime) {
-    let mut stripe = opened(&rt, rt.alloc());
-    check_tries(&rt, rt.alloc(), &mut stripe, 1000, LIVE.as_slice());
 }
 
 // Nothing happens before the last row: the item of class 1 stays as it was.
@@ -285,7 +233,7 @@ static OVER: [Row; 26] = [
 ];
 
 #[test]
-fn what_is_wanted_over_an_item(rt: HostRuntime) {
+fn over_an_item_both_classes_a_room_and_places_are_wanted(rt: HostRuntime) {
     let mut stripe = opened(&rt, rt.alloc());
     check_tries(&rt, rt.alloc(), &mut stripe, 1000, OVER.as_slice());
 }
@@ -404,120 +352,39 @@ static ALL: [Asked; 16] = [
     Huge(Verb::Append),
 ];
 
-// Ends the test where a command that is given all it may need tells something else at this moment.
-fn check_all<R: Abort>(rt: &R, alloc: Global, stripe: &mut StripeState, moment: u64, got: Told) {
+/// Ends the test where a command that is given all it may need tells something else at this moment.
+pub(super) fn check_all<R: Abort>(
+    rt: &R,
+    alloc: Global,
+    stripe: &mut StripeState,
+    moment: u64,
+    got: Told,
+) {
     for asked in ALL.as_slice() {
         let rows = [(*asked, Both(1, Chunk, 9, 1, 9), got)];
         check_tries(rt, alloc, stripe, moment, rows.as_slice());
     }
 }
 
-static DIES: [Row; 1] = [NINE_UNTIL];
+const DECLINED: Row = (
+    Store(Verb::Add, "8"),
+    Nothing,
+    Made("NotStored", Keep, Untouched),
+);
 
-static BURIED: [Row; 2] = [
-    MISS,
-    (
-        Store(Verb::Add, "8"),
-        Home(1, Chunk, 1),
-        Made("Stored", Chunk, NEW_1),
-    ),
-];
-
-#[test]
-fn a_dead_item_has_to_be_buried_first(rt: HostRuntime) {
-    let mut stripe = opened(&rt, rt.alloc());
-    check_tries(&rt, rt.alloc(), &mut stripe, 1000, DIES.as_slice());
-    check_all(&rt, rt.alloc(), &mut stripe, 1100, Wants(Burial(OLD)));
-    expire(&rt, rt.alloc(), &mut stripe, WHO, 1100);
-    check_tries(&rt, rt.alloc(), &mut stripe, 1100, BURIED.as_slice());
+// Ends the test where something is made once a first event and fifteen others fill the history.
+fn check_full<R: Abort + RandomSource>(rt: &R, alloc: Global, first: Row, other: Row) {
+    let mut stripe = opened(rt, alloc);
+    check_tries(rt, alloc, &mut stripe, 1000, &[first]);
+    for _ in 0..15 {
+        check_tries(rt, alloc, &mut stripe, 1000, &[other]);
+    }
+    check_all(rt, alloc, &mut stripe, 1000, Fails(Fault::HistoryFull));
 }
 
-static GROWS: [Row; 2] = [
-    NINE_UNTIL,
-    (
-        Incr(1),
-        Both(2, Chunk, 1, 1, 1),
-        Made("Number(10)", Chunk, GROWN),
-    ),
-];
-
-#[test]
-fn a_grown_number_dies_with_the_old_one(rt: HostRuntime) {
-    let mut stripe = opened(&rt, rt.alloc());
-    check_tries(&rt, rt.alloc(), &mut stripe, 1000, GROWS.as_slice());
-}
-
-static JOINS: [Row; 2] = [
-    NINE_UNTIL,
-    (
-        StoreUntil(Verb::Append, "1", 5),
-        Both(2, Chunk, 1, 1, 1),
-        Made("Stored", Chunk, GROWN),
-    ),
-];
-
-#[test]
-fn a_joined_value_dies_with_the_old_one(rt: HostRuntime) {
-    let mut stripe = opened(&rt, rt.alloc());
-    check_tries(&rt, rt.alloc(), &mut stripe, 1000, JOINS.as_slice());
-}
-
-const NINE_FIRST: &str = "Value { flags: 7, value: Value { bytes: [57] }, cas: 2 }";
-
-static HIT: [Row; 2] = [
-    NINE_UNTIL,
-    (Touch(100), Nothing, Made("Touched", Keep, Untouched)),
-];
-
-static HIT_TOO_LATE: [Row; 2] = [
-    (Touch(100), Nothing, Wants(Burial(OLD))),
-    (Get, Nothing, Wants(Burial(OLD))),
-];
-
-static HIT_IN_TIME: [Row; 3] = [
-    (Touch(100), Nothing, Made("Touched", Keep, Woken(OLD))),
-    (Touch(100), Nothing, Made("Touched", Keep, Untouched)),
-    (Get, Nothing, Made(NINE_FIRST, Keep, Untouched)),
-];
-
-// The item dies at the moment 1100.
-#[test]
-fn the_second_hit_of_a_live_item_wakes_it(rt: HostRuntime) {
-    let mut stripe = opened(&rt, rt.alloc());
-    check_tries(&rt, rt.alloc(), &mut stripe, 1000, HIT.as_slice());
-    check_tries(&rt, rt.alloc(), &mut stripe, 1100, HIT_TOO_LATE.as_slice());
-    check_tries(&rt, rt.alloc(), &mut stripe, 1099, HIT_IN_TIME.as_slice());
-}
-
-// What is held is of no matter to a gat.
-static GATS: [Row; 4] = [
-    NINE,
-    (Gat(100), Nothing, Made(NINE_FIRST, Keep, Untouched)),
-    (Gat(0), Other(1, 0), Made(NINE_FIRST, Keep, Woken(OLD))),
-    (
-        Gat(100),
-        Home(1, Chunk, 0),
-        Made(NINE_FIRST, Keep, Untouched),
-    ),
-];
-
-#[test]
-fn the_second_gat_wakes_an_item(rt: HostRuntime) {
-    let mut stripe = opened(&rt, rt.alloc());
-    check_tries(&rt, rt.alloc(), &mut stripe, 1000, GATS.as_slice());
-}
-
-static MISSES: [Row; 16] = [MISS; 16];
-
+// Whether the key is absent or not.
 #[test]
 fn a_full_history_makes_nothing(rt: HostRuntime) {
-    let mut stripe = opened(&rt, rt.alloc());
-    check_tries(&rt, rt.alloc(), &mut stripe, 1000, MISSES.as_slice());
-    check_all(
-        &rt,
-        rt.alloc(),
-        &mut stripe,
-        1000,
-        Fails(Fault::HistoryFull),
-    );
+    check_full(&rt, rt.alloc(), MISS, MISS);
+    check_full(&rt, rt.alloc(), NINE, DECLINED);
 }

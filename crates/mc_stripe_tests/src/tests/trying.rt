@@ -1,11 +1,11 @@
-//! Tries of commands on stripe 1 of 4, each of which is held against the plain program of the table.
+//! Tries of commands on stripe 1 of 4. Each adds its event and does to its item what it tells, or nothing.
 use super::calls::{asserts_owned, fault_text};
-use super::noted::{did_text, text_of_event};
-use super::plain::{Plain, by_table, classes_of, reply_text, text, text_of_item};
-use super::{Asked, WHO, checked, command_of, four_stripes};
-use mc_item::{ClassNo, Fault, Link, Room, StripeNo, Who};
+use super::noted::{command_text, text_of_event};
+use super::texts::{reply_text, text, text_of_item};
+use super::{Asked, b, checked, command_of, four_stripes};
+use mc_item::{ClassNo, Fault, Item, Link, Marks, Room, StripeNo, Who};
 use mc_stripe::{Classes, Done, Fate, Given, Home, Other, StripeState, Turn, Want};
-use mc_testing::may_give;
+use mc_testing::{WHO, may_give};
 use std::alloc::Global;
 use std::hash::RandomState;
 use std::process::Abort;
@@ -41,7 +41,16 @@ pub(super) type Row = (Asked, Held, Told);
 
 /// Stripe 1 of four, without items or events.
 pub(super) fn opened<R: Abort + RandomSource>(rt: &R, alloc: Global) -> StripeState {
-    let config = checked(rt, four_stripes(rt, alloc));
+    opened_up_to(rt, alloc, 70)
+}
+
+/// The same, where a chunk of class 2 has so many bytes.
+pub(super) fn opened_up_to<R: Abort + RandomSource>(
+    rt: &R,
+    alloc: Global,
+    largest: u64,
+) -> StripeState {
+    let config = checked(rt, four_stripes(rt, alloc, largest));
     let seed = RandomState::new(rt).expect(rt, "a seed");
     StripeState::new(alloc, StripeNo(1), &config, seed)
 }
@@ -106,18 +115,6 @@ pub(super) fn held_of(classes: Classes, lent: Lent, places: u64) -> Held {
     }
 }
 
-/// All that a command may want, where the class of its new version lends this.
-pub(super) fn held_for<R: Abort>(
-    rt: &R,
-    alloc: Global,
-    stripe: &StripeState,
-    asked: Asked,
-    lent: Lent,
-) -> Held {
-    let command = command_of(rt, alloc, asked);
-    held_of(classes_of(stripe, &command), lent, 2)
-}
-
 // The text of the last event, where there is one.
 fn last_text<R: Abort>(rt: &R, alloc: Global, stripe: &StripeState) -> String {
     match stripe.history().len().checked_sub(1) {
@@ -126,69 +123,126 @@ fn last_text<R: Abort>(rt: &R, alloc: Global, stripe: &StripeState) -> String {
     }
 }
 
-// What a stripe has: how many events, and the texts of the last one and of the item of the key `b`.
+// The link and the marks of an item.
+#[derive(Clone, Copy)]
+struct Chunk {
+    link: Link,
+    marks: Marks,
+}
+
+// What a stripe has: how many events, the texts of the last one and of the item of the key `b`, and that item's chunk.
 #[derive(Drop)]
-struct Texts {
+struct Seen {
     events: u64,
     last: String,
     item: String,
+    chunk: Option<Chunk>,
 }
 
-fn texts_of<R: Abort>(rt: &R, alloc: Global, stripe: &StripeState) -> Texts {
-    Texts {
+fn chunk_of<R: Abort>(rt: &R, alloc: Global, stripe: &StripeState) -> Option<Chunk> {
+    let key = b(rt, alloc);
+    let item = stripe.find(&key)?;
+    Some(Chunk {
+        link: item.link,
+        marks: item.marks,
+    })
+}
+
+fn seen_now<R: Abort>(rt: &R, alloc: Global, stripe: &StripeState) -> Seen {
+    Seen {
         events: events(stripe),
         last: last_text(rt, alloc, stripe),
         item: text_of_item(rt, alloc, stripe),
+        chunk: chunk_of(rt, alloc, stripe),
     }
 }
 
-// Ends the test where a stripe has something else.
-fn check_texts<R: Abort>(rt: &R, texts: &Texts, events: u64, last: &str, item: &str) {
-    assert_eq!(rt; texts.events, events);
-    assert_eq!(rt; texts.last.as_str(), last);
-    assert_eq!(rt; texts.item.as_str(), item);
+fn link_in(chunk: Option<Chunk>) -> Option<Link> {
+    Some(chunk?.link)
 }
 
-// Ends the test where a command did something else than by the plain program.
-fn check_made<R: Abort>(rt: &R, alloc: Global, plain: &Plain, done: &Done) {
-    let got = reply_text(rt, alloc, &done.reply);
-    let wanted = reply_text(rt, alloc, &plain.did.reply);
-    assert_eq!(rt; got.as_str(), wanted.as_str());
-    assert_eq!(rt; done.room, plain.did.room);
-    assert_eq!(rt; done.fate, plain.fate);
+// What became of a chunk, or of the mark ACTIVE beside it, where the item is there now.
+fn fate_to(before: Option<Chunk>, now: &Item) -> Fate {
+    match before {
+        Some(chunk) if chunk.link == now.link => {
+            if now.marks.active && !chunk.marks.active {
+                Fate::Woken(chunk.link)
+            } else {
+                Fate::Untouched
+            }
+        }
+        _ => Fate::Renewed {
+            cost: (now.value.bytes().len() as u64).saturating_add(65),
+            expiry: now.expiry,
+            old: link_in(before),
+        },
+    }
 }
 
-// Ends the test where a try did something else than by the plain program: where it made the command, there is its event
-// and the item that it leaves, and else nothing happened.
-fn check_try<R: Abort>(
+// The same, where the item may be absent now.
+fn fate_between(before: Option<Chunk>, now: Option<&Item>) -> Fate {
+    match (now, link_in(before)) {
+        (Some(item), _) => fate_to(before, item),
+        (None, Some(link)) => Fate::Goes(link),
+        (None, None) => Fate::Untouched,
+    }
+}
+
+// Whether a command hits an item.
+fn is_hit(asked: Asked) -> bool {
+    match asked {
+        Asked::Get | Asked::Gat(_) | Asked::Touch(_) => true,
+        _ => false,
+    }
+}
+
+// The marks of an item that has this link now: the first hit leaves FETCHED, the next one ACTIVE.
+fn marks_after(before: Option<Chunk>, link: Link, hit: bool) -> Marks {
+    match before {
+        Some(chunk) if chunk.link == link => Marks {
+            fetched: chunk.marks.fetched || hit,
+            active: chunk.marks.active || (hit && chunk.marks.fetched),
+        },
+        _ => Marks {
+            fetched: false,
+            active: false,
+        },
+    }
+}
+
+// Ends the test where a command that was made left other marks, or another fate than it tells.
+fn check_item<R: Abort>(
     rt: &R,
     alloc: Global,
-    before: &Texts,
-    now: &Texts,
-    plain: &Plain,
-    got: &Result<Result<Done, Want>, Fault>,
+    before: Option<Chunk>,
+    stripe: &StripeState,
+    asked: Asked,
+    fate: Fate,
 ) {
-    match got {
-        Ok(Ok(done)) => {
-            check_made(rt, alloc, plain, done);
-            let event = did_text(rt, alloc, &plain.did);
-            let events = before.events.saturating_add(1);
-            check_texts(rt, now, events, event.as_str(), plain.left.as_str());
-        }
-        Ok(Err(_)) | Err(_) => {
-            check_texts(
-                rt,
-                now,
-                before.events,
-                before.last.as_str(),
-                before.item.as_str(),
-            );
-        }
+    let key = b(rt, alloc);
+    let now = stripe.find(&key);
+    assert_eq!(rt; fate, fate_between(before, now));
+    if let Some(item) = now {
+        assert_eq!(rt; item.marks, marks_after(before, item.link, is_hit(asked)));
     }
 }
 
-/// What the try of a caller's command tells, which is held against the plain program.
-pub(super) fn text_of_try<R: Abort>(
+// Ends the test where this isn't the event that was added.
+fn check_event<R: Abort>(rt: &R, alloc: Global, before: &Seen, stripe: &StripeState, event: &str) {
+    assert_eq!(rt; events(stripe), before.events.saturating_add(1));
+    let last = last_text(rt, alloc, stripe);
+    assert_eq!(rt; last.as_str(), event);
+}
+
+// Ends the test where a command that wasn't made left something else than there was.
+fn check_open<R: Abort>(rt: &R, before: &Seen, now: &Seen) {
+    assert_eq!(rt; now.events, before.events);
+    assert_eq!(rt; now.last.as_str(), before.last.as_str());
+    assert_eq!(rt; now.item.as_str(), before.item.as_str());
+}
+
+/// What the try of a caller's command tells. The test ends where something else happened.
+pub(super) fn try_command<R: Abort>(
     rt: &R,
     alloc: Global,
     stripe: &mut StripeState,
@@ -201,13 +255,17 @@ pub(super) fn text_of_try<R: Abort>(
     let given = given_of(held, events(stripe));
     asserts_owned(rt, stripe, &command, moment);
     assert!(rt; may_give(given, stripe.history()));
-    let same = command_of(rt, alloc, asked);
     let turn = Turn { who, moment };
-    let plain = by_table(rt, alloc, stripe, same, turn, given);
-    let before = texts_of(rt, alloc, stripe);
+    let before = seen_now(rt, alloc, stripe);
     let got = stripe.attempt(&command, turn, &given);
-    let now = texts_of(rt, alloc, stripe);
-    check_try(rt, alloc, &before, &now, &plain, &got);
+    match &got {
+        Ok(Ok(done)) => {
+            let event = command_text(rt, alloc, turn, &command, &done.reply, done.room);
+            check_event(rt, alloc, &before, stripe, event.as_str());
+            check_item(rt, alloc, before.chunk, stripe, asked, done.fate);
+        }
+        Ok(Err(_)) | Err(_) => check_open(rt, &before, &seen_now(rt, alloc, stripe)),
+    }
     got
 }
 
@@ -267,7 +325,7 @@ fn row_texts<R: Abort>(
 ) -> (String, String) {
     let (asked, held, got) = row;
     let wanted = wanted_text(rt, alloc, got, held, events(stripe));
-    let got = text_of_try(rt, alloc, stripe, WHO, asked, moment, held);
+    let got = try_command(rt, alloc, stripe, WHO, asked, moment, held);
     (text_of_text(rt, alloc, &got), wanted)
 }
 

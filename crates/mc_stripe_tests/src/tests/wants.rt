@@ -2,16 +2,16 @@
 //! An item of the key `b` costs 65 bytes and those of its value; class 1 has 66 bytes, class 2 has 70.
 use super::Asked::{Decr, Delete, Gat, Get, Huge, Incr, Store, Touch};
 use super::calls::expire;
-use super::plain::need_of;
 use super::rows::Ask::{Answer, Events};
 use super::rows::check_rows;
 use super::tries::{GROWN, NEW_1, NEW_2, OLD, OVER_1, OVER_2};
-use super::trying::{Held, Lent, held_of, opened, text_of_try};
-use super::{Asked, WHO, command_of, rows};
+use super::trying::{Held, Lent, held_of, opened, try_command};
+use super::{Asked, rows};
 use mc_item::Need::{Fresh, Nothing, Same, TooLarge};
 use mc_item::{ClassNo, Fault, Link, Need, Verb};
 use mc_stripe::Fate::{Goes, Untouched, Woken};
 use mc_stripe::{Classes, Done, Fate, StripeState, Want};
+use mc_testing::WHO;
 use std::alloc::Global;
 use std::process::Abort;
 use std::random::RandomSource;
@@ -73,10 +73,12 @@ static THERE: [Row; 22] = [
 ];
 
 // The item was hit by a touch, and dies at the moment 1100.
-static TOUCHED: [Row; 5] = [
+static TOUCHED: [Row; 7] = [
     (Get, Nothing, Woken(OLD), Woken(OLD)),
     (Gat(200), Nothing, Woken(OLD), Woken(OLD)),
     (Touch(200), Nothing, Woken(OLD), Woken(OLD)),
+    (Store(Verb::Set, "1"), FIRST, OVER_1, Goes(OLD)),
+    (Delete, Nothing, Goes(OLD), Goes(OLD)),
     (Incr(1), SECOND, GROWN, Untouched),
     (Store(Verb::Append, "1"), SECOND, GROWN, Untouched),
 ];
@@ -141,7 +143,7 @@ fn begun<R: Abort + RandomSource>(
     let mut stripe = opened(rt, alloc);
     check_rows(rt, alloc, &mut stripe, rows);
     if let Some(link) = dead {
-        let got = text_of_try(rt, alloc, &mut stripe, WHO, asked, moment, Held::Nothing);
+        let got = try_command(rt, alloc, &mut stripe, WHO, asked, moment, Held::Nothing);
         check_want(rt, &got, Want::Burial(link));
         expire(rt, alloc, &mut stripe, WHO, moment);
     }
@@ -175,16 +177,15 @@ fn check_lent<R: Abort + RandomSource>(
     lent: Lent,
     fate: Fate,
 ) {
-    let (asked, need, ..) = row;
+    let asked = row.0;
     let mut stripe = begun(rt, alloc, state, asked);
-    assert_eq!(rt; need_of(&stripe, &command_of(rt, alloc, asked)), need);
     let classes = classes_in(row);
     if classes.home.is_some() || classes.other.is_some() {
-        let got = text_of_try(rt, alloc, &mut stripe, WHO, asked, state.1, Held::Nothing);
+        let got = try_command(rt, alloc, &mut stripe, WHO, asked, state.1, Held::Nothing);
         check_want(rt, &got, Want::Classes(classes));
     }
     let held = held_of(classes, lent, 2);
-    let got = text_of_try(rt, alloc, &mut stripe, WHO, asked, state.1, held);
+    let got = try_command(rt, alloc, &mut stripe, WHO, asked, state.1, held);
     check_fate(rt, &got, fate);
 }
 
@@ -199,7 +200,7 @@ fn check_wants<R: Abort + RandomSource>(rt: &R, alloc: Global, state: State, row
 static NONE: [rows::Row; 1] = [(Events, "0")];
 
 #[test]
-fn what_is_wanted_of_an_absent_item(rt: HostRuntime) {
+fn an_absent_item_takes_a_chunk_only_if_it_is_stored(rt: HostRuntime) {
     let state = (NONE.as_slice(), 1000, None);
     check_wants(&rt, rt.alloc(), state, ABSENT.as_slice());
 }
@@ -207,7 +208,7 @@ fn what_is_wanted_of_an_absent_item(rt: HostRuntime) {
 static NINE: [rows::Row; 1] = [(Answer(Store(Verb::Set, "9")), "Stored")];
 
 #[test]
-fn what_is_wanted_of_an_item_that_was_never_hit(rt: HostRuntime) {
+fn an_item_keeps_its_chunk_unless_it_is_replaced_or_removed(rt: HostRuntime) {
     let state = (NINE.as_slice(), 1000, None);
     check_wants(&rt, rt.alloc(), state, THERE.as_slice());
 }
@@ -218,7 +219,7 @@ static HIT: [rows::Row; 2] = [
 ];
 
 #[test]
-fn what_is_wanted_of_an_item_that_was_hit_once(rt: HostRuntime) {
+fn an_item_that_was_hit_once_is_woken_by_the_next_hit(rt: HostRuntime) {
     let state = (HIT.as_slice(), 1000, None);
     check_wants(&rt, rt.alloc(), state, TOUCHED.as_slice());
     let state = (HIT.as_slice(), 1099, None);
@@ -226,7 +227,7 @@ fn what_is_wanted_of_an_item_that_was_hit_once(rt: HostRuntime) {
 }
 
 #[test]
-fn what_is_wanted_of_a_dead_item(rt: HostRuntime) {
+fn a_dead_item_is_absent_once_it_is_buried(rt: HostRuntime) {
     let state = (HIT.as_slice(), 1100, Some(OLD));
     check_wants(&rt, rt.alloc(), state, DEAD.as_slice());
 }
@@ -241,7 +242,7 @@ static HIT_TWICE: [rows::Row; 3] = [
 ];
 
 #[test]
-fn what_is_wanted_of_an_item_that_was_hit_twice(rt: HostRuntime) {
+fn an_active_item_is_not_woken_again(rt: HostRuntime) {
     let state = (HIT_TWICE.as_slice(), 1000, None);
     check_wants(&rt, rt.alloc(), state, ACTIVE.as_slice());
 }
@@ -249,7 +250,7 @@ fn what_is_wanted_of_an_item_that_was_hit_twice(rt: HostRuntime) {
 static LETTER: [rows::Row; 1] = [(Answer(Store(Verb::Set, "x")), "Stored")];
 
 #[test]
-fn what_is_wanted_of_an_item_that_is_no_number(rt: HostRuntime) {
+fn an_item_that_is_no_number_is_not_counted(rt: HostRuntime) {
     let state = (LETTER.as_slice(), 1000, None);
     check_wants(&rt, rt.alloc(), state, TEXT.as_slice());
 }
