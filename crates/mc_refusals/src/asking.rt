@@ -31,14 +31,15 @@ pub(crate) fn value_of(alloc: Global, text: &str) -> Result<Value, NoMemory> {
     Value::of(alloc, Vec::from_slice(alloc, text.as_bytes())?)
 }
 
-/// Returns the command that asks it of a key.
-pub(crate) fn command_of(alloc: Global, key: Key, asked: Asked) -> Result<Command, NoMemory> {
+/// Returns the command that asks it of the key of this letter.
+pub(crate) fn command_of(alloc: Global, letter: u8, asked: Asked) -> Option<Command> {
+    let key = key_of(alloc, letter).ok()?;
     match asked {
-        Asked::Get => Ok(Command::Get(key)),
-        Asked::Gat => Ok(Command::Gat(key, 60)),
+        Asked::Get => Some(Command::Get(key)),
+        Asked::Gat => Some(Command::Gat(key, 60)),
         Asked::Store(verb, text, exptime) => {
-            let value = value_of(alloc, text)?;
-            Ok(Command::Store {
+            let value = value_of(alloc, text).ok()?;
+            Some(Command::Store {
                 verb,
                 key,
                 flags: 7,
@@ -46,9 +47,9 @@ pub(crate) fn command_of(alloc: Global, key: Key, asked: Asked) -> Result<Comman
                 value,
             })
         }
-        Asked::Incr => Ok(Command::Incr(key, 5)),
-        Asked::Touch => Ok(Command::Touch(key, 60)),
-        Asked::Delete => Ok(Command::Delete(key)),
+        Asked::Incr => Some(Command::Incr(key, 5)),
+        Asked::Touch => Some(Command::Touch(key, 60)),
+        Asked::Delete => Some(Command::Delete(key)),
     }
 }
 
@@ -98,13 +99,9 @@ fn attempt(world: &mut World, command: &Command, given: Given, marks: Marks) -> 
 
 // Tries a command on the stripe with what it is given.
 fn ask_with(world: &mut World, letter: u8, asked: Asked, given: Given, marks: Marks) -> End {
-    let alloc = world.alloc;
-    let Ok(key) = key_of(alloc, letter) else {
-        return End::Other;
-    };
-    match command_of(alloc, key, asked) {
-        Ok(command) => attempt(world, &command, given, marks),
-        Err(_) => End::Other,
+    match command_of(world.alloc, letter, asked) {
+        Some(command) => attempt(world, &command, given, marks),
+        None => End::Other,
     }
 }
 

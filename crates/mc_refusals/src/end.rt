@@ -1,7 +1,7 @@
 //! How a call ended, and what came of a case.
 use mc_item::{Fault, NoMemory};
 
-/// How a call ended. `Other` is each end that a case isn't made for.
+/// How a call ended. `Refused` is the want of memory. `Other` is each end that a case isn't made for.
 #[derive(Clone, Copy, PartialEq, Eq)]
 pub(crate) enum End {
     Made,
@@ -36,9 +36,4 @@ pub(crate) fn end_by<T: Drop>(ended: Result<T, NoMemory>) -> End {
         Ok(_) => End::Made,
         Err(NoMemory) => End::Refused,
     }
-}
-
-/// The same, by whether it returned something other than an error, of a call that here fails in no other way.
-pub(crate) fn end_if(made: bool) -> End {
-    if made { End::Made } else { End::Refused }
 }

@@ -31,8 +31,8 @@ fn forget_dead(world: &mut World, key: Key, marks: Marks) -> End {
 }
 
 /// Forgets the item of a key, which is dead.
-pub(crate) fn expire(world: &mut World, letter: u8, marks: Marks) -> End {
-    match key_of(world.alloc, letter) {
+pub(crate) fn expire(world: &mut World, marks: Marks) -> End {
+    match key_of(world.alloc, b'a') {
         Ok(key) => forget_dead(world, key, marks),
         Err(_) => End::Other,
     }
@@ -60,8 +60,8 @@ fn forget_taken(world: &mut World, key: Key, marks: Marks) -> End {
 }
 
 /// Forgets the item of a key, whose chunk was taken.
-pub(crate) fn take(world: &mut World, letter: u8, marks: Marks) -> End {
-    match key_of(world.alloc, letter) {
+pub(crate) fn take(world: &mut World, marks: Marks) -> End {
+    match key_of(world.alloc, b'a') {
         Ok(key) => forget_taken(world, key, marks),
         Err(_) => End::Other,
     }
@@ -88,8 +88,8 @@ fn cool_item(world: &mut World, key: Key, marks: Marks) -> End {
 }
 
 /// Clears the ACTIVE mark of the item of a key.
-pub(crate) fn cool(world: &mut World, letter: u8, marks: Marks) -> End {
-    match key_of(world.alloc, letter) {
+pub(crate) fn cool(world: &mut World, marks: Marks) -> End {
+    match key_of(world.alloc, b'a') {
         Ok(key) => cool_item(world, key, marks),
         Err(_) => End::Other,
     }

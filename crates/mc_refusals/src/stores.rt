@@ -1,43 +1,33 @@
-//! Cases on a store that threads may share: what is done before the call, the call, and what the store then has.
+//! Cases on a store of two classes, of 100 and 200 bytes, that threads may share: what is done before the call, and the call.
 ghost use Rattle.std.specs.Prelude.{◌≡◌, ◌<◌, IfSome, length};
-ghost use Rattle.mc_item.specs.Config.{IsBounded, IsSound};
 ghost use Rattle.mc_store.specs.Opening.{AreParts};
 
-use crate::asking::{Asked, MOMENT, command_of, key_of};
-use crate::end::{End, Outcome, end_if, end_of};
+use crate::asking::{Asked, MOMENT, command_of};
+use crate::configuring::store_config;
+use crate::end::{End, Outcome, end_by, end_of};
 use crate::marks::Marks;
-use crate::noting::{Events, Note, begins, events_of, note_of};
-use crate::worlds::{outcome_by, sound_config};
-use mc_item::{ClassNo, Config, StripeEvent, StripeNo};
-use mc_segment::ClassState;
+use crate::noting::{Left, left_of, outcome_of as outcome_by};
+use mc_item::{ClassNo, Config, NoMemory, StripeNo};
 use mc_store::{Final, Named, Pass, Store, Tokens};
-use mc_stripe::StripeState;
 use std::alloc::Global;
 use std::hash::RandomState;
 use std::marker::Brand;
 use std::sync::Wait;
 
-/// A call of a store.
+/// A call of a store. Work on a class is done on the first one, at 1001.
 #[derive(Clone, Copy)]
 pub(crate) enum Called {
     /// A command at 1000 on the key of 31 times this letter.
     Command(u8, Asked),
-    /// On the class.
-    Class(Work),
-}
-
-/// Work on the class.
-#[derive(Clone, Copy)]
-pub(crate) enum Work {
-    /// It is juggled at 1001.
     Juggle,
-    /// It is crawled at 1001.
     Crawl,
-    /// Its limit becomes two chunks.
+    /// The limit becomes two chunks.
     Limit,
 }
 
 const LATER: u64 = 1001;
+
+const FIRST: ClassNo = ClassNo(1);
 
 // What a store is opened with.
 #[derive(Drop)]
@@ -47,47 +37,8 @@ struct Parts {
     seed: RandomState,
 }
 
-// What is noted of a store after a call: how it ended, its events, and how many commands were answered.
-#[derive(Drop)]
-struct Left {
-    end: End,
-    note: Note,
-    events: Events,
-    answered: usize,
-}
-
-/// Returns how many commands a stripe has answered.
-pub(crate) fn answered_in(stripe: &StripeState) -> usize {
-    let mut many = 0usize;
-    for place in 0..stripe.history().len() {
-        if let Some(StripeEvent::Did(_)) = stripe.history().get(place) {
-            many = many.saturating_add(1);
-        }
-    }
-    many
-}
-
-fn left_of(alloc: Global, stripe: &StripeState, class: &ClassState, end: End) -> Option<Left> {
-    let events = events_of(alloc, stripe, class).ok()?;
-    Some(Left {
-        end,
-        note: note_of(alloc, stripe, class),
-        events,
-        answered: answered_in(stripe),
-    })
-}
-
-fn left_in(alloc: Global, ledger: &Final, end: End) -> Option<Left>
-    requires stripe { 0 < length ledger.now.stripes }
-    requires class { 0 < length ledger.now.classes }
-{
-    left_of(
-        alloc,
-        ledger.stripe(StripeNo(0)),
-        ledger.class(ClassNo(1)),
-        end,
-    )
-}
+// A store with its callers.
+type Opened<N> = (Store<N>, Vec<Pass<N>>);
 
 // Makes a command.
 fn ask<N: Named>(
@@ -98,10 +49,7 @@ fn ask<N: Named>(
     asked: Asked,
     marks: Marks,
 ) -> End {
-    let Ok(key) = key_of(marks.alloc, letter) else {
-        return End::Other;
-    };
-    let Ok(command) = command_of(marks.alloc, key, asked) else {
+    let Some(command) = command_of(marks.alloc, letter, asked) else {
         return End::Other;
     };
     marks.begin();
@@ -110,25 +58,21 @@ fn ask<N: Named>(
     end_of(reply)
 }
 
-// Works on the class.
-fn work_on<N: Named>(
+fn work<N: Named>(
     rt: &impl Wait,
     store: &Store<N>,
     pass: &mut Pass<N>,
-    called: Work,
-    marks: Marks,
+    called: Called,
+    alloc: Global,
 ) -> End
     requires class { 0 < length N.config.sizes }
 {
-    let class = ClassNo(1);
-    marks.begin();
-    let end = match called {
-        Work::Juggle => end_of(store.juggle(marks.alloc, rt, pass, class, LATER)),
-        Work::Crawl => end_of(store.crawl(marks.alloc, rt, pass, class, LATER)),
-        Work::Limit => end_of(store.chunks(rt, pass, class, 2)),
-    };
-    marks.end();
-    end
+    match called {
+        Called::Juggle => end_of(store.juggle(alloc, rt, pass, FIRST, LATER)),
+        Called::Crawl => end_of(store.crawl(alloc, rt, pass, FIRST, LATER)),
+        Called::Limit => end_of(store.chunks(rt, pass, FIRST, 2)),
+        Called::Command(_, _) => End::Other,
+    }
 }
 
 fn make<N: Named>(
@@ -140,10 +84,13 @@ fn make<N: Named>(
 ) -> End
     requires class { 0 < length N.config.sizes }
 {
-    match called {
-        Called::Command(letter, asked) => ask(rt, store, pass, letter, asked, marks),
-        Called::Class(called) => work_on(rt, store, pass, called, marks),
+    if let Called::Command(letter, asked) = called {
+        return ask(rt, store, pass, letter, asked, marks);
     }
+    marks.begin();
+    let end = work(rt, store, pass, called, marks.alloc);
+    marks.end();
+    end
 }
 
 // Makes calls, and returns how the last one ended. That one has the marks, if they are on.
@@ -169,25 +116,32 @@ fn make_all<N: Named>(
     }
 }
 
+fn left_in(alloc: Global, ledger: &Final, end: End) -> Option<Left>
+    requires stripe { 0 < length ledger.now.stripes }
+    requires classes { 1 < length ledger.now.classes }
+{
+    let classes = [ledger.class(FIRST), ledger.class(ClassNo(2))];
+    left_of(alloc, end, ledger.stripe(StripeNo(0)), &classes)
+}
+
 fn played<N: Named>(
     rt: &impl Wait,
-    store: Store<N>,
-    pass: Pass<N>,
+    opened: Opened<N>,
     before: &[Called],
     call: Option<Called>,
     marks: Marks,
 ) -> Option<Left>
     requires stripe { 0 < N.config.stripes }
-    requires class { 0 < length N.config.sizes }
+    requires classes { 1 < length N.config.sizes }
 {
-    let mut pass = pass;
+    let (store, mut passes) = opened;
+    let mut pass = passes.pop()?;
     let end = make_all(rt, &store, &mut pass, before, call, marks);
     let ledger = store.close();
     left_in(marks.alloc, &ledger, end)
 }
 
-// The store of these parts, with its caller.
-fn opened<N: Named>(alloc: Global, parts: Parts) -> Option<(Store<N>, Vec<Pass<N>>)>
+fn opened<N: Named>(alloc: Global, parts: Parts) -> Result<Opened<N>, NoMemory>
     requires named { (parts.tokens.board ≡ N.board) × (parts.config ≡ N.config) × (parts.tokens.queues ≡ N.queues) }
     requires fit { AreParts N.board N.config N.queues parts.tokens }
 {
@@ -196,7 +150,7 @@ fn opened<N: Named>(alloc: Global, parts: Parts) -> Option<(Store<N>, Vec<Pass<N
         tokens,
         seed,
     } = parts;
-    Store::<N>::open(alloc, config, tokens, seed).ok()
+    Store::<N>::open(alloc, config, tokens, seed)
 }
 
 fn with_parts<N: Named>(
@@ -208,21 +162,21 @@ fn with_parts<N: Named>(
 ) -> Option<Left>
     requires named { (parts.tokens.board ≡ N.board) × (parts.config ≡ N.config) × (parts.tokens.queues ≡ N.queues) }
     requires fit { AreParts N.board N.config N.queues parts.tokens }
+    requires classes { 1 < length N.config.sizes }
 {
-    let (store, mut passes) = opened::<N>(marks.alloc, parts)?;
-    match passes.pop() {
-        Some(pass) => played(rt, store, pass, before, call, marks),
-        None => None,
+    match opened::<N>(marks.alloc, parts) {
+        Ok(opened) => played(rt, opened, before, call, marks),
+        Err(_) => None,
     }
 }
 
-// What a store of this configuration is opened with.
-fn parts_of(alloc: Global, config: Config, seed: RandomState) -> Option<Parts>
-    requires bounded { IsBounded config }
-    requires sound { IsSound config }
-    ensures { IfSome result (λ p. AreParts p.tokens.board p.config p.tokens.queues p.tokens) }
+fn parts_for(rt: &HostRuntime) -> Option<Parts>
+    ensures parts { IfSome result (λ p. AreParts p.tokens.board p.config p.tokens.queues p.tokens) }
+    ensures classes { IfSome result (λ p. 1 < length p.config.sizes) }
 {
-    match Tokens::open(alloc, &config) {
+    let seed = RandomState::new(rt).ok()?;
+    let config = store_config(rt.alloc())?;
+    match Tokens::open(rt.alloc(), &config) {
         Ok(tokens) => Some(Parts {
             config,
             tokens,
@@ -232,13 +186,6 @@ fn parts_of(alloc: Global, config: Config, seed: RandomState) -> Option<Parts>
     }
 }
 
-fn parts_for(rt: &HostRuntime) -> Option<Parts>
-    ensures { IfSome result (λ p. AreParts p.tokens.board p.config p.tokens.queues p.tokens) }
-{
-    let seed = RandomState::new(rt).ok()?;
-    parts_of(rt.alloc(), sound_config(rt.alloc())?, seed)
-}
-
 fn open_named<N: Named>(parts: Parts, marks: Marks) -> End
     requires named { (parts.tokens.board ≡ N.board) × (parts.config ≡ N.config) × (parts.tokens.queues ≡ N.queues) }
     requires fit { AreParts N.board N.config N.queues parts.tokens }
@@ -246,7 +193,7 @@ fn open_named<N: Named>(parts: Parts, marks: Marks) -> End
     marks.begin();
     let store = opened::<N>(marks.alloc, parts);
     marks.end();
-    end_if(store.is_some())
+    end_by(store)
 }
 
 /// Opens a store.
@@ -265,27 +212,9 @@ fn left_after(
     call: Option<Called>,
     on: bool,
 ) -> Option<Left> {
-    let marks = Marks {
-        alloc: rt.alloc(),
-        on,
-    };
-    with_parts::<Brand>(wait, parts_for(rt)?, before, call, marks)
-}
-
-// What came of a refused call, by what the store had before it, and what it has after the call that isn't refused.
-fn outcome_of_refused(old: &Left, whole: &Left, left: &Left) -> Outcome {
-    if old.answered != left.answered {
-        return Outcome::Changed;
-    }
-    outcome_by(old.note, left.note, begins(&left.events, &whole.events))
-}
-
-fn compared(old: &Left, whole: &Left, left: &Left) -> Outcome {
-    match left.end {
-        End::Made => Outcome::Made,
-        End::Other => Outcome::Other,
-        End::Refused => outcome_of_refused(old, whole, left),
-    }
+    let alloc = rt.alloc();
+    let parts = parts_for(rt)?;
+    with_parts::<Brand>(wait, parts, before, call, Marks { alloc, on })
 }
 
 /// Returns what came of a call after these. `None`: there is no store to make it on.
@@ -298,5 +227,5 @@ pub(crate) fn outcome_of(
     let old = left_after(rt, wait, before, None, false)?;
     let whole = left_after(rt, wait, before, Some(call), false)?;
     let left = left_after(rt, wait, before, Some(call), true)?;
-    Some(compared(&old, &whole, &left))
+    Some(outcome_by(&old, &whole, &left))
 }
