@@ -1,36 +1,14 @@
 //! The crawl of one link.
 ghost use Rattle.std.specs.Prelude.{◌≡◌, IfOk, IfErr, OnOk, OnErr};
 ghost use Rattle.mc_segment.specs.ClassState.{with_room};
-ghost use Rattle.mc_pull.specs.{Gates.IsServedBy, Gates.LeavesGate, Gates.MayLook, Growth.GainsEvents, Looks.IsAnswered, Walker.walker_by};
-ghost use Rattle.mc_crawl.specs.{Crawl.crawl_by, Crawl.asked_by, Crawl.HasCounted, Crawl.IsCrawled, CrawlCount.IsBalanced, CrawlCount.MayCount};
+ghost use Rattle.mc_pull.specs.{Gates.IsServedBy, Gates.LeavesGate, Growth.GainsEvents, Walker.walker_by};
+ghost use Rattle.mc_crawl.specs.{Crawl.crawl_by, Crawl.HasCounted, Crawl.IsCrawled, CrawlCount.IsBalanced, CrawlCount.MayCount};
 ghost use Rattle.mc_crawl.specs.CrawlKind.{IsCounted};
 
 use crate::kind::{Kind, count, kind_of};
-use mc_item::{Fault, Histogram, Link, StripeNo, stripe_of};
-use mc_pull::{Context, Gate, Judge, Judged, Look};
+use mc_item::{Fault, Histogram, Link, stripe_of};
+use mc_pull::{Context, Gate, Judge, look_at};
 use mc_segment::ClassState;
-
-// Looks at one entry through the gate, and asks only whether its item is dead.
-fn look_at<G: Gate>(
-    context: Context<'_>,
-    class: &mut ClassState,
-    stripe: StripeNo,
-    number: u64,
-    gate: &mut G,
-) -> Result<Option<Judged>, Fault>
-    requires look { MayLook G.serves context.config.now gate.old stripe class.old (asked_by (crawl_by context number)) }
-    ensures answer { IfOk result (IsAnswered context.entry.config.now stripe (asked_by (crawl_by context.entry number)) class.old class.new (G.answers
-        gate.old) (G.answers gate.new)) }
-    ensures err { OnErr result ((class.new ≡ with_room class.old class.new.room) × (G.answers gate.new ≡ G.answers gate.old)) }
-    ensures fault { IfErr result (G.faults gate.new class.new) }
-    ensures gate { LeavesGate G.references G.serves G.keeps context.entry.config.now (walker_by class.old context.entry) gate.old class.old gate.new class.new }
-{
-    let judge = Judge::Dead;
-    let mut look = Look::new(context, class, number, &judge);
-    gate.visit(stripe, &mut look)?;
-    let judged = look.judged;
-    Ok(judged)
-}
 
 // What one link counts as. Its entry is looked at, if it is still in a list.
 fn kind_at<G: Gate>(
@@ -50,7 +28,7 @@ fn kind_at<G: Gate>(
         return Ok(Kind::Gone);
     };
     let stripe = stripe_of(&entry.key, context.config.stripes);
-    let judged = look_at(context, class, stripe, number, gate)?;
+    let judged = look_at(context, class, stripe, number, &Judge::Dead, gate)?;
     Ok(kind_of(judged, context.turn.moment))
 }
 

@@ -7,7 +7,7 @@ use mc_item::{Expiry, Histogram};
 use mc_pull::{Done, Judged};
 
 /// What a crawl counts a link as.
-#[derive(Clone, Copy, Debug, PartialEq, Eq)]
+#[derive(Clone, Copy)]
 pub enum Kind {
     /// Its number is in no list of the class.
     Gone,

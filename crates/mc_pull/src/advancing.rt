@@ -34,19 +34,13 @@ fn cold_entry(class: &ClassState, number: u64) -> Option<&Entry>
 fn is_to_warm(judged: Option<Judged>) -> bool
     ensures { result ≡ words.is_to_warm_if judged }
 {
-    match judged {
-        None => false,
-        Some(judged) => match judged.done {
-            Done::ToWarm => true,
-            Done::Reclaimed => false,
-            Done::WithinWarm => false,
-            Done::ToCold => false,
-            Done::Evicted => false,
-            Done::Stayed => false,
-            Done::Alive(_) => false,
-            Done::Stranger => false,
-        },
-    }
+    matches!(
+        judged,
+        Some(Judged {
+            done: Done::ToWarm,
+            ..
+        })
+    )
 }
 
 /// Moves the entry of an item that was hit from COLD to WARM's head, with the moment as its time, clears the item's ACTIVE

@@ -15,7 +15,7 @@ ghost use Rattle.mc_pull.specs.{Parts.MayMake, Parts.part_for, Performed.IsUntou
 use crate::making::make;
 use crate::parts::{Part, entry_number, gone_part, is_here, linked_part};
 use mc_item::{Command, Fault, Key, Link, NoMemory, Reply, Room};
-use mc_segment::ClassState;
+use mc_segment::{ClassState, EntryKey};
 use mc_stripe::{Done, Fate, Given, Home, Other, StripeState, Turn, Want};
 use std::alloc::Global;
 
@@ -49,7 +49,6 @@ fn room_of(class: &ClassState, refused: Option<u64>, turn: Turn) -> Room
     requires noted { IsNoted refused turn.who class.now }
     ensures { GivesHome class.now refused turn.who result }
 {
-    let _turn = turn;
     if !class.is_full() {
         return Room::At(Link {
             class: class.number(),
@@ -103,13 +102,6 @@ pub fn ready(class: &mut ClassState) -> Result<(), Fault>
     class.reserve(places)
 }
 
-// The key of a class's new entry. `copy`: the key again, if events are kept.
-#[derive(Drop)]
-struct Keys {
-    key: Key,
-    copy: Option<Key>,
-}
-
 // A copy of a key, if one is wanted.
 #[inline(always)]
 fn key_if(alloc: Global, key: &Key, wanted: bool) -> Result<Option<Key>, NoMemory>
@@ -124,13 +116,13 @@ fn key_if(alloc: Global, key: &Key, wanted: bool) -> Result<Option<Key>, NoMemor
 
 // Copies a command's key for its part in a class.
 #[inline(always)]
-fn keys_for(alloc: Global, class: &ClassState, command: &Command) -> Result<Keys, NoMemory>
+fn keys_for(alloc: Global, class: &ClassState, command: &Command) -> Result<EntryKey, NoMemory>
     ensures key { IfOk result (λ keys. keys.key ≡ key_of command.now) }
     ensures copy { IfOk result (λ keys. class.now.keeps_events ≡ true → keys.copy ≡ Some keys.key) }
 {
     let key = command.key().copy(alloc)?;
     let copy = key_if(alloc, &key, class.keeps_events())?;
-    Ok(Keys { key, copy })
+    Ok(EntryKey { key, copy })
 }
 
 // A class's part in a command that was made, by the command's room and what becomes of its key's chunks.
@@ -157,7 +149,7 @@ fn part_after(class: &ClassState, key: Key, room: Room, fate: Fate) -> Part
 
 // Makes a class's part in a command that was made.
 #[inline(always)]
-fn make_part(class: &mut ClassState, keys: Keys, room: Room, fate: Fate, turn: Turn)
+fn make_part(class: &mut ClassState, keys: EntryKey, room: Room, fate: Fate, turn: Turn)
     requires may { MayMakePart class.old keys.key room fate }
     requires copy { class.old.keeps_events ≡ true → keys.copy ≡ Some keys.key }
     ensures { class.new ≡ class_with class.old (words.part_events class.old turn.who turn.moment (part_for class.old keys.key room fate)) class.new.room }

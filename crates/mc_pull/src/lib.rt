@@ -33,7 +33,7 @@ pub use juggling::juggle;
 pub use lone::Lone;
 pub use looking::{Answer, Gate, Judged, Look};
 pub use pulled::Pulled;
-pub use pulling::pull_tail;
+pub use pulling::{look_at, pull_tail};
 pub use rounds::make_room;
 pub use settling::settle;
 pub use trying::a_search_in_vain_has_tried;

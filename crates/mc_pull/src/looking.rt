@@ -1,6 +1,5 @@
 //! Looks: how a walk reaches the stripe of an entry's key, through a gate.
-ghost use Rattle.std.specs.Prelude.{◌≡◌, List, None, is_some, IfOk, IfErr, OnOk, OnErr};
-ghost use Rattle.mc_item.specs.declared.{item.StripeNo.StripeNo, class_event.ClassEvent.ClassEvent};
+ghost use Rattle.std.specs.Prelude.{◌≡◌, None, is_some, IfOk, IfErr, OnOk, OnErr};
 ghost use Rattle.mc_segment.specs.ClassState.{with_room};
 ghost use Rattle.mc_stripe.specs.StripeState.{cache_now};
 ghost use Rattle.mc_pull.specs.{Gates.LeavesGate, Gates.MayLook, Judgement.done_of, Looks.IsAnswered, Looks.IsDone, Looks.MaySettle};
@@ -13,7 +12,6 @@ use crate::settling::settle_ask;
 use mc_item::{Fault, StripeNo};
 use mc_segment::ClassState;
 use mc_stripe::StripeState;
-use std::alloc::Global;
 
 /// What was done with an entry, and how many events its stripe had before that.
 #[derive(Clone, Copy, Debug, PartialEq, Eq)]
@@ -32,7 +30,6 @@ pub struct Answer {
 /// A look at one entry of a class, which is to be judged with the state of its key's stripe.
 #[derive(Drop)]
 pub struct Look<'a> {
-    pub alloc: Global,
     pub class: &'a mut ClassState,
     pub ask: Ask<'a>,
     pub judged: Option<Judged>,
@@ -53,7 +50,6 @@ impl<'a> Look<'a> {
         ensures judged { result.judged ≡ None }
     {
         Look {
-            alloc: context.alloc,
             class,
             ask: Ask {
                 who: context.turn.who,
@@ -82,7 +78,7 @@ impl<'a> Look<'a> {
     {
         let at = stripe.history().len() as u64;
         let class = &mut *self.class;
-        let done = settle_ask(self.alloc, class, stripe, &self.ask)?;
+        let done = settle_ask(class, stripe, &self.ask)?;
         self.judged = Some(Judged { done, at });
         Ok(done)
     }

@@ -34,8 +34,7 @@ fn warm_outcome(mode: Mode, active: bool, due: bool) -> Done
                 Done::Stayed
             }
         }
-        Mode::Evict => Done::Stayed,
-        Mode::Force => Done::Stayed,
+        Mode::Evict | Mode::Force => Done::Stayed,
     }
 }
 

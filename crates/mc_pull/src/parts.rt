@@ -66,8 +66,7 @@ pub(crate) fn is_here(class: &ClassState, room: Room) -> bool
 {
     match room {
         Room::At(link) => link.class.0 == class.number().0,
-        Room::Refused { .. } => false,
-        Room::Keep => false,
+        Room::Refused { .. } | Room::Keep => false,
     }
 }
 

@@ -43,15 +43,7 @@ impl Pulled {
                 reclaimed: self.reclaimed + 1,
                 ..self
             },
-            Done::ToWarm => Pulled {
-                moved: self.moved + 1,
-                ..self
-            },
-            Done::WithinWarm => Pulled {
-                moved: self.moved + 1,
-                ..self
-            },
-            Done::ToCold => Pulled {
+            Done::ToWarm | Done::WithinWarm | Done::ToCold => Pulled {
                 moved: self.moved + 1,
                 ..self
             },
@@ -59,8 +51,7 @@ impl Pulled {
                 evicted: self.evicted + 1,
                 ..self
             },
-            Done::Stayed => self,
-            Done::Alive(_) => self,
+            Done::Stayed | Done::Alive(_) => self,
             Done::Stranger => Pulled {
                 passed: self.passed + 1,
                 ..self
@@ -92,17 +83,11 @@ impl Pulled {
 pub(crate) fn ends_with(judged: Option<Judged>) -> bool
     ensures { result ≡ words.is_end_if judged }
 {
-    match judged {
-        None => false,
-        Some(judged) => match judged.done {
-            Done::Reclaimed => false,
-            Done::WithinWarm => false,
-            Done::Stranger => false,
-            Done::ToWarm => true,
-            Done::ToCold => true,
-            Done::Evicted => true,
-            Done::Stayed => true,
-            Done::Alive(_) => true,
-        },
-    }
+    matches!(
+        judged,
+        Some(Judged {
+            done: Done::ToWarm | Done::ToCold | Done::Evicted | Done::Stayed | Done::Alive(_),
+            ..
+        })
+    )
 }

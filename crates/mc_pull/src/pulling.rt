@@ -1,6 +1,5 @@
 //! Walks along a list from its tail.
-ghost use Rattle.std.specs.Prelude.{◌≡◌, ◌<◌, ◌≤◌, ◌++◌, ◌∷◌, [], ℕ, List, true, false, length, take, reverse, IfOk, IfErr, OnErr};
-ghost use Rattle.mc_rule.specs.{Lists.lists_of, Lists.list_of, Segment.numbers_of};
+ghost use Rattle.std.specs.Prelude.{◌≡◌, ◌<◌, ◌≤◌, ◌++◌, ◌∷◌, [], ℕ, List, false, IfOk, IfErr, OnErr};
 ghost use Rattle.mc_segment.specs.ClassState.{with_room};
 ghost use Rattle.mc_pull.specs.{Gates.IsServedBy, Gates.LeavesGate, Gates.MayLook, Growth.GainsEvents, Growth.GainsFor, Growth.looks_for_chunk};
 ghost use Rattle.mc_pull.specs.{Looks.IsAnswered, Pulled.sum_of, Question.MayWalk, Question.question_by, Walker.walker_by};
@@ -12,25 +11,11 @@ use crate::context::Context;
 use crate::judge::{Judge, Mode};
 use crate::looking::{Answer, Gate, Judged, Look};
 use crate::pulled::{Pulled, ends_with};
-use mc_item::{Fault, Passed, Seg, StripeNo, stripe_of};
+use mc_item::{Fault, Seg, StripeNo, stripe_of};
 use mc_segment::ClassState;
 
 // The most entries that a walk looks at (own).
 const MOST_LOOKS: u64 = 5;
-
-// The numbers of this many entries, from a list's tail on.
-fn passed_behind(class: &ClassState, seg: Seg, place: u64) -> Passed
-    requires few { place ≤ 4 }
-    requires there { place ≤ length (list_of (lists_of class.now.history) seg) }
-    ensures { result ≡ take place (reverse (numbers_of (list_of (lists_of class.now.history) seg))) }
-{
-    let mut numbers = [0; 4];
-    'numbers: for j in 0..place {
-        let entry = class.from_tail(seg, j).unwrap();
-        numbers[j as usize] = entry.number;
-    }
-    Passed::of(&numbers[..place as usize])
-}
 
 // Whether a walk of this mode still goes on. One that looks for a chunk ends when a chunk is free.
 fn is_wanted(class: &ClassState, mode: Mode) -> bool
@@ -38,13 +23,13 @@ fn is_wanted(class: &ClassState, mode: Mode) -> bool
 {
     match mode {
         Mode::Plain(_) => true,
-        Mode::Evict => class.chunks() <= class.count(),
-        Mode::Force => class.chunks() <= class.count(),
+        Mode::Evict | Mode::Force => class.chunks() <= class.count(),
     }
 }
 
-// Looks at one entry through the gate.
-pub(crate) fn look_at<G: Gate>(
+/// Looks at one entry through the gate, once, and returns what was done with it, or `None` if its stripe wasn't reached.
+/// Errors: the gate's faults. Neither the class's history nor the gate's answers have changed then.
+pub fn look_at<G: Gate>(
     context: Context<'_>,
     class: &mut ClassState,
     stripe: StripeNo,
@@ -91,7 +76,7 @@ fn look_next<G: Gate>(
     let judge = Judge::Walk {
         seg,
         mode,
-        passed: passed_behind(class, seg, pulled.passed),
+        passed: class.passed(seg, pulled.passed),
     };
     let judged = look_at(context, class, stripe, number, &judge, gate)?;
     Ok(Answer { stripe, judged })

@@ -18,15 +18,9 @@ use crate::verdict::{is_over, verdict};
 use mc_item::{Config, Fault, Key, Passed, Seg, Shifted, Why};
 use mc_segment::ClassState;
 use mc_stripe::StripeState;
-use std::alloc::Global;
 
 // Makes room for one event of the class and one of the stripe, and copies the entry's key for the stripe's event.
-fn prepare(
-    alloc: Global,
-    class: &mut ClassState,
-    stripe: &mut StripeState,
-    ask: &Ask<'_>,
-) -> Result<Key, Fault>
+fn prepare(class: &mut ClassState, stripe: &mut StripeState, ask: &Ask<'_>) -> Result<Key, Fault>
     requires asked { IsAsked class.old stripe.old ask.now }
     requires there { IsListed ask.now.number (lists_of class.old.history) }
     ensures key { IfOk result (λ key. IsSomeAnd (entry_of ask.now.number (lists_of class.old.history)) (λ e. key ≡ e.key)) }
@@ -42,7 +36,7 @@ fn prepare(
     if stripe.history().len() as u64 >= ask.config.max_events {
         return Err(Fault::HistoryFull);
     }
-    let key = class.entry(ask.number).unwrap().key.copy(alloc)?;
+    let key = class.key(ask.number)?;
     class.reserve(1)?;
     stripe.reserve(1)?;
     Ok(key)
@@ -88,12 +82,7 @@ fn cold_why(class: &ClassState, seg: Seg, mode: Mode, config: &Config) -> Why
 }
 
 // Removes a dead item and its entry.
-fn settle_dead(
-    alloc: Global,
-    class: &mut ClassState,
-    stripe: &mut StripeState,
-    ask: &Ask<'_>,
-) -> Result<(), Fault>
+fn settle_dead(class: &mut ClassState, stripe: &mut StripeState, ask: &Ask<'_>) -> Result<(), Fault>
     requires asked { IsAsked class.old stripe.old ask.now }
     requires done { done_of class.old (cache_now stripe.old) (question_of ask.now) ≡ done.Reclaimed }
     ensures settled { OnOk result (IsSettled class.old class.new stripe.old stripe.new (question_of ask.now) done.Reclaimed) }
@@ -101,7 +90,7 @@ fn settle_dead(
     ensures site { KeepsSite stripe.old stripe.new }
     ensures refusal { MatchResult result (λ _. HavePlaces class.old stripe.old) (MayRefuseBoth class.old stripe.old) }
 {
-    let key = prepare(alloc, class, stripe, ask)?;
+    let key = prepare(class, stripe, ask)?;
     let at = stripe.history().len() as u64;
     certain::reclaim(class, ask.who, ask.number, ask.moment, at);
     certain::forget_expired(stripe, ask.who, key, ask.moment);
@@ -110,7 +99,6 @@ fn settle_dead(
 
 // Evicts an entry of COLD with its item.
 fn settle_taken(
-    alloc: Global,
     class: &mut ClassState,
     stripe: &mut StripeState,
     ask: &Ask<'_>,
@@ -122,7 +110,7 @@ fn settle_taken(
     ensures site { KeepsSite stripe.old stripe.new }
     ensures refusal { MatchResult result (λ _. HavePlaces class.old stripe.old) (MayRefuseBoth class.old stripe.old) }
 {
-    let key = prepare(alloc, class, stripe, ask)?;
+    let key = prepare(class, stripe, ask)?;
     let at = stripe.history().len() as u64;
     let place = class.history().len() as u64;
     certain::evict(class, ask.who, ask.number, passed_of(ask.judge), at);
@@ -132,7 +120,6 @@ fn settle_taken(
 
 // Moves the entry of an ACTIVE item to WARM's head, and clears the mark.
 fn settle_active(
-    alloc: Global,
     class: &mut ClassState,
     stripe: &mut StripeState,
     ask: &Ask<'_>,
@@ -146,7 +133,7 @@ fn settle_active(
     ensures site { KeepsSite stripe.old stripe.new }
     ensures refusal { MatchResult result (λ _. HavePlaces class.old stripe.old) (MayRefuseBoth class.old stripe.old) }
 {
-    let key = prepare(alloc, class, stripe, ask)?;
+    let key = prepare(class, stripe, ask)?;
     let at = stripe.history().len() as u64;
     class.law();
     certain::shift(
@@ -194,12 +181,7 @@ fn settle_cold(
 }
 
 // Finds what is to be done with an entry, and does it.
-fn settle_by(
-    alloc: Global,
-    class: &mut ClassState,
-    stripe: &mut StripeState,
-    ask: &Ask<'_>,
-) -> Result<Done, Fault>
+fn settle_by(class: &mut ClassState, stripe: &mut StripeState, ask: &Ask<'_>) -> Result<Done, Fault>
     requires asked { IsAsked class.old stripe.old ask.now }
     ensures done { IfOk result (λ made. made ≡ done_of class.old (cache_now stripe.old) (question_of ask.now)) }
     ensures settled { IfOk result (λ made. IsSettled class.old class.new stripe.old stripe.new (question_of ask.now) made) }
@@ -210,9 +192,9 @@ fn settle_by(
 {
     let made = verdict(class, stripe, ask.number, ask.judge, ask.moment, ask.config);
     match made {
-        Done::Reclaimed => settle_dead(alloc, class, stripe, ask)?,
-        Done::ToWarm => settle_active(alloc, class, stripe, ask)?,
-        Done::WithinWarm => settle_active(alloc, class, stripe, ask)?,
+        Done::Reclaimed => settle_dead(class, stripe, ask)?,
+        Done::ToWarm => settle_active(class, stripe, ask)?,
+        Done::WithinWarm => settle_active(class, stripe, ask)?,
         Done::ToCold => match ask.judge {
             Judge::Walk { seg, mode, passed } => {
                 settle_cold(class, stripe, ask, *seg, *mode, passed)?
@@ -220,7 +202,7 @@ fn settle_by(
             Judge::Dead => unreachable!(),
             Judge::Hit => unreachable!(),
         },
-        Done::Evicted => settle_taken(alloc, class, stripe, ask)?,
+        Done::Evicted => settle_taken(class, stripe, ask)?,
         Done::Stayed => {}
         Done::Alive(_) => {}
         Done::Stranger => {}
@@ -230,7 +212,6 @@ fn settle_by(
 
 // Judges the entry that is asked about, as `settle` does.
 pub(crate) fn settle_ask(
-    alloc: Global,
     class: &mut ClassState,
     stripe: &mut StripeState,
     ask: &Ask<'_>,
@@ -244,7 +225,7 @@ pub(crate) fn settle_ask(
 {
     class.law();
     stripe.history();
-    settle_by(alloc, class, stripe, ask)
+    settle_by(class, stripe, ask)
 }
 
 /// Judges one entry with its stripe, makes the events of both histories, and returns what was done. It goes by the rule of the
@@ -271,7 +252,6 @@ pub fn settle(
         number judge.now))) }
 {
     settle_ask(
-        context.alloc,
         class,
         stripe,
         &Ask {

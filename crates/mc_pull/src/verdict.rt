@@ -28,8 +28,7 @@ fn percent_of(config: &Config, seg: Seg) -> u64
     match seg {
         Seg::Hot => config.hot_percent,
         Seg::Warm => config.warm_percent,
-        Seg::Cold => 0,
-        Seg::Temp => 0,
+        Seg::Cold | Seg::Temp => 0,
     }
 }
 
@@ -40,8 +39,7 @@ fn factor_of(config: &Config, seg: Seg) -> u64
     match seg {
         Seg::Hot => config.hot_factor,
         Seg::Warm => config.warm_factor,
-        Seg::Cold => 0,
-        Seg::Temp => 0,
+        Seg::Cold | Seg::Temp => 0,
     }
 }
 
@@ -74,8 +72,7 @@ fn is_due(
         Mode::Plain(survey) => {
             is_over(class, seg, survey, config) || is_old(seg, survey, moment, entry, config)
         }
-        Mode::Evict => false,
-        Mode::Force => false,
+        Mode::Evict | Mode::Force => false,
     }
 }
 

@@ -13,7 +13,7 @@ const LATER: u64 = 1001;
 fn judge(world: &mut World, number: u64, asked: &Judge, marks: Marks) -> End
     requires { MayJudgeBy world.old.class (record { caller = 0; turn = 0 }) number 1001 asked.now }
 {
-    let context = context(world.alloc, LATER, &world.config);
+    let context = context(LATER, &world.config);
     marks.begin();
     let done = settle(context, &mut world.class, &mut world.stripe, number, asked);
     marks.end();

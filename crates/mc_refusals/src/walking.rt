@@ -13,7 +13,7 @@ const LATER: u64 = 1001;
 
 /// Walks along COLD for an entry to take.
 pub(crate) fn pull(world: &mut World, marks: Marks) -> End {
-    let context = context(world.alloc, LATER, &world.config);
+    let context = context(LATER, &world.config);
     let mut gate = Lone {
         number: StripeNo(0),
         stripe: &mut world.stripe,
@@ -27,7 +27,7 @@ pub(crate) fn pull(world: &mut World, marks: Marks) -> End {
 
 /// Makes room in the class.
 pub(crate) fn make_room(world: &mut World, marks: Marks) -> End {
-    let context = context(world.alloc, LATER, &world.config);
+    let context = context(LATER, &world.config);
     let mut gate = Lone {
         number: StripeNo(0),
         stripe: &mut world.stripe,
@@ -41,7 +41,7 @@ pub(crate) fn make_room(world: &mut World, marks: Marks) -> End {
 
 /// Juggles the class.
 pub(crate) fn juggle(world: &mut World, marks: Marks) -> End {
-    let context = context(world.alloc, LATER, &world.config);
+    let context = context(LATER, &world.config);
     let mut gate = Lone {
         number: StripeNo(0),
         stripe: &mut world.stripe,
@@ -55,7 +55,7 @@ pub(crate) fn juggle(world: &mut World, marks: Marks) -> End {
 
 /// Moves the entry of the first link, whose item was hit.
 pub(crate) fn take_hit(world: &mut World, marks: Marks) -> End {
-    let context = context(world.alloc, LATER, &world.config);
+    let context = context(LATER, &world.config);
     let mut gate = Lone {
         number: StripeNo(0),
         stripe: &mut world.stripe,
@@ -96,7 +96,7 @@ pub(crate) fn crawl(world: &mut World, marks: Marks) -> End {
         answers: &mut Vec::new(world.alloc),
     };
     let mut counts = empty();
-    let context = context(world.alloc, LATER, &world.config);
+    let context = context(LATER, &world.config);
     marks.begin();
     let crawled = crawl_lone(context, class, link, &mut counts, &mut gate);
     marks.end();

@@ -4,7 +4,7 @@ ghost use Rattle.mc_evidence.specs.Sound.{IsSoundStore};
 ghost use Rattle.mc_store.specs.Finals.{AreClasses, AreExactlyEntries, AreStripes, class_histories, stripe_histories};
 ghost use Rattle.mc_store.specs.Locked.{setting_of};
 
-use crate::comparing::judge;
+use crate::comparing::compare_each_other;
 use crate::final_store::Final;
 use crate::locked::{LockedClass, LockedStripe};
 use crate::named::Named;
@@ -100,7 +100,7 @@ impl<N: Named> Store<N> {
         } = shelf.into_inner();
         take_stripes(&board, stripes, &mut stripe_shelf);
         take_classes(&board, classes, &mut class_shelf);
-        judge::<N>(&board, &mut stripe_shelf, &mut class_shelf);
+        compare_each_other::<N>(&board, &mut stripe_shelf, &mut class_shelf);
         Final::new(board, stripe_shelf, class_shelf)
     }
 }

@@ -157,7 +157,7 @@ fn compare_from_classes(
 
 // Shows that all stripes and classes, each as its lock kept it, are sound together, and that the items are exactly the entries.
 // This follows as each has seen a beginning of each other's history.
-pub(crate) fn judge<N: Named>(
+pub(crate) fn compare_each_other<N: Named>(
     board: &Board,
     stripes: &mut Vec<OwnedStripe>,
     classes: &mut Vec<OwnedClass>,

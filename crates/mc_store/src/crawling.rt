@@ -1,5 +1,5 @@
 //! The crawl of a class that threads share: a snapshot of its links under its lock, then each link under the lock again.
-ghost use Rattle.std.specs.Prelude.{◌≡◌, ◌⊎◌, ◌+◌, ◌-◌, ◌^◌, length, IfErr, IfOk, MatchResult, OnOk, IsErrOf, ◌++◌, ◌∷◌, ◌≤◌, [], OnErr};
+ghost use Rattle.std.specs.Prelude.{◌≡◌, ◌⊎◌, ◌+◌, ◌^◌, length, IfErr, IfOk, MatchResult, OnOk, IsErrOf, ◌++◌, ◌∷◌, ◌≤◌, [], OnErr};
 ghost use Rattle.mc_item.specs.declared.fault.Fault.TheVariants.{HistoryFull, NoMemory};
 ghost use Rattle.mc_evidence.specs.Setting.{IsClass};
 ghost use Rattle.mc_board.specs.Histories.{list_at};
@@ -107,7 +107,6 @@ fn crawl_under<N: Named>(
         moment: call.turn.moment,
     };
     let context = Context {
-        alloc: call.alloc,
         turn: call.turn,
         config: &store.config,
     };

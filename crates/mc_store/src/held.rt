@@ -1,7 +1,6 @@
 //! A command on the classes that it has locked: their views are synced with the stripe's, and it is tried on what they offer.
 ghost use Rattle.std.specs.Prelude.{◌≡◌, ◌≢◌, ◌≤◌, ◌⊎◌, Some, None, IfOk, MatchResult, OnOk, OnErr, IsErrOf, length};
 ghost use Rattle.mc_item.specs.Command.{key_of};
-ghost use Rattle.mc_item.specs.declared.answer.Need.TheVariants as needs;
 ghost use Rattle.mc_item.specs.declared.fault.Fault.TheVariants.{HistoryFull};
 ghost use Rattle.mc_board.specs.Histories.{Grows};
 ghost use Rattle.mc_pull.specs.Attempt.{IsReady};

@@ -1,5 +1,5 @@
 //! Juggling a class that threads share, which is the LRU maintainer's work.
-ghost use Rattle.std.specs.Prelude.{◌≡◌, ◌≤◌, ◌⊎◌, ◌+◌, ◌-◌, IfErr, IfOk, OnOk, IsErrOf, ◌++◌, ◌∷◌, [], length};
+ghost use Rattle.std.specs.Prelude.{◌≡◌, ◌≤◌, ◌⊎◌, ◌+◌, IfErr, IfOk, OnOk, IsErrOf, ◌++◌, ◌∷◌, [], length};
 ghost use Rattle.mc_item.specs.declared.fault.Fault.TheVariants.{HistoryFull};
 ghost use Rattle.mc_evidence.specs.Setting.{IsClass};
 ghost use Rattle.mc_store.specs.Accounts.{Enters, IsOfWalk};

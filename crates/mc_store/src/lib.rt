@@ -39,7 +39,7 @@ pub use laws::{
     a_closed_store_bears_out_each_reply, a_closed_store_bears_out_figures,
     a_turn_of_a_closed_store_is_answered_once, a_turn_that_failed_is_not_answered,
     between_commands_a_closed_store_only_lost, each_class_event_of_a_closed_store_was_called,
-    each_event_of_a_closed_store_was_called,
+    each_event_of_a_closed_store_was_called, each_loss_of_a_closed_store_was_called_for,
 };
 pub use lock_no::LockNo;
 pub use named::Named;

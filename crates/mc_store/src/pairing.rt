@@ -1,13 +1,12 @@
 //! Steps on a stripe and classes under their locks. Before each step the views of stripe and classes are synced. After it the
 //! board gets the new events, and the views are synced again.
-ghost use Rattle.std.specs.Prelude.{ℕ, ◌≡◌, ◌≤◌, ◌<◌, ◌+◌, ◌∷◌, [], true, false, ◌++◌, IfOk, OnOk, OnErr, IsErrOf, length};
+ghost use Rattle.std.specs.Prelude.{ℕ, ◌≡◌, ◌≤◌, ◌<◌, ◌∷◌, [], true, false, ◌++◌, IfOk, OnOk, OnErr, IsErrOf, length};
 ghost use Rattle.mc_item.specs.declared.fault.Fault.TheVariants.{HistoryFull};
 ghost use Rattle.mc_evidence.specs.Seen.{classes_seen};
 ghost use Rattle.mc_rule.specs.Lists.{IsFull};
 ghost use Rattle.mc_segment.specs.ClassCalls.{Makes, Stays, refused_event};
 ghost use Rattle.mc_board.specs.Histories.{Grows, list_at};
-ghost use Rattle.mc_pull.specs.{Agreeing.AgreeNow, Perform.call};
-ghost use Rattle.mc_pull.specs.Growth as classes;
+ghost use Rattle.mc_pull.specs.Agreeing.{AgreeNow};
 ghost use Rattle.mc_store.specs.{Callers.IsUnanswered, Callers.answered_at, Callers.calls_told, Locked.HasBegunSearch, Locked.caller_place};
 ghost use Rattle.mc_store.specs.{Accounts.IsOfStretch, Accounts.StillCalls, Accounts.stretch_of, Searches.HasSeenOf, Sides.class_told, Sides.stripe_sight};
 

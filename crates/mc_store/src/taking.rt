@@ -94,7 +94,6 @@ fn advance_under<N: Named>(
         moment: call.turn.moment,
     };
     let context = Context {
-        alloc: call.alloc,
         turn: call.turn,
         config: &store.config,
     };

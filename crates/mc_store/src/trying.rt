@@ -22,11 +22,7 @@ use mc_stripe::Given;
 fn is_made(tried: &Result<Tried, Fault>) -> bool
     ensures { result ≡ words.is_made tried.now }
 {
-    match tried {
-        Ok(Tried::Made { .. }) => true,
-        Ok(Tried::Wants(_)) => false,
-        Err(_) => false,
-    }
+    matches!(tried, Ok(Tried::Made { .. }))
 }
 
 // Tries a command once on its stripe alone.

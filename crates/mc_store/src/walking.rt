@@ -72,7 +72,6 @@ fn make_room_with<N: Named>(
         },
     };
     let context = Context {
-        alloc: task.alloc,
         turn: task.turn,
         config: &store.config,
     };
@@ -158,7 +157,6 @@ pub(crate) fn juggle_under<N: Named>(
         moment: call.turn.moment,
     };
     let context = Context {
-        alloc: call.alloc,
         turn: call.turn,
         config: &store.config,
     };
@@ -191,7 +189,6 @@ pub(crate) fn bury_under<N: Named>(
     class.side.state.law();
     own.side.state.history();
     let context = Context {
-        alloc: task.alloc,
         turn: task.turn,
         config: &store.config,
     };

@@ -98,16 +98,12 @@ pub fn store(world: &mut World, letter: u8, exptime: i64, moment: u64) -> Result
 }
 
 /// Returns what is fixed for the steps of the call at this moment.
-pub fn context(alloc: Global, moment: u64, config: &Config) -> Context<'_>
+pub fn context(moment: u64, config: &Config) -> Context<'_>
     ensures turn { result.turn ≡ record { who = record { caller = 0; turn = 0 }; moment = moment } }
     ensures config { result.config.now ≡ config.now }
 {
     let turn = Turn { who: WHO, moment };
-    Context {
-        alloc,
-        turn,
-        config,
-    }
+    Context { turn, config }
 }
 
 /// Juggles the class, as the LRU maintainer does, through a gate that is lent the stripe.
@@ -119,6 +115,6 @@ pub fn juggle(world: &mut World, moment: u64) -> Result<Moves, Fail> {
         stripe: &mut world.stripe,
         answers: &mut answers,
     };
-    let context = context(alloc, moment, &world.config);
+    let context = context(moment, &world.config);
     Ok(gate.juggle(context, &mut world.class)?)
 }

@@ -40,7 +40,7 @@ fn crawl_into(
         answers: &mut answers,
     };
     let class = &mut world.class;
-    let context = context(alloc, moment, &world.config);
+    let context = context(moment, &world.config);
     crawl_lone(context, class, link, histogram, &mut gate)?;
     Ok(true)
 }
@@ -75,9 +75,8 @@ fn refuse_into(
     if histogram.seen >= 1000 {
         return Ok(false);
     }
-    let alloc = world.alloc;
     let class = &mut world.class;
-    let context = context(alloc, moment, &world.config);
+    let context = context(moment, &world.config);
     crawl_one(context, class, link, histogram, gate)?;
     Ok(true)
 }

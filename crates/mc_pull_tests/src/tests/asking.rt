@@ -119,7 +119,7 @@ fn tell_juggle(pair: &mut Pair) -> Result<String, Fail>
         stripe: &mut pair.stripe,
         answers: &mut answers,
     };
-    let context = context(alloc, pair.moment, &pair.config);
+    let context = context(pair.moment, &pair.config);
     let moves = gate.juggle(context, &mut pair.first)?;
     Ok(format!(in alloc; "{} moved", moves.moved)?)
 }
@@ -143,7 +143,7 @@ fn tell_burial(pair: &mut Pair, number: u64) -> Result<String, Fail>
     let Some(_) = pair.first.entry(number) else {
         return Err(Fail::from("there is no such entry"));
     };
-    let context = context(alloc, pair.moment, &pair.config);
+    let context = context(pair.moment, &pair.config);
     let class = &mut pair.first;
     let done = settle(context, class, &mut pair.stripe, number, &Judge::Dead)?;
     Ok(format!(in alloc; "{done:?}")?)

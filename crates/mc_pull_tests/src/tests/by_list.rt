@@ -92,7 +92,7 @@ fn walk(
         yes,
         fails,
     };
-    let context = context(alloc, moment, &world.config);
+    let context = context(moment, &world.config);
     let pulled = pull_tail(context, class, seg, mode, &mut gate)?;
     Ok(Some(pulled))
 }
@@ -124,7 +124,7 @@ fn room(
         yes,
         fails,
     };
-    let context = context(alloc, moment, &world.config);
+    let context = context(moment, &world.config);
     let found = make_room(context, class, &mut gate)?;
     Ok((found, answers.len()))
 }
@@ -139,7 +139,7 @@ fn juggle_by(world: &mut World, moment: u64, fails: Option<usize>) -> Result<(),
         yes: &[true; 100],
         fails,
     };
-    let context = context(alloc, moment, &world.config);
+    let context = context(moment, &world.config);
     mc_pull::juggle(context, class, &mut gate)?;
     Ok(())
 }

@@ -20,7 +20,7 @@ fn take(world: &mut World, taken: Taken) -> Result<(bool, usize), Fault> {
         yes: taken.2,
         fails: None,
     };
-    let context = context(alloc, taken.1, &world.config);
+    let context = context(taken.1, &world.config);
     let moved = advance(context, class, taken.0, &mut gate)?;
     Ok((moved, answers.len()))
 }

@@ -61,7 +61,6 @@ pub(super) fn judge(
     mode: Mode,
     moment: u64,
 ) -> Result<Option<(u64, Done)>, Fault> {
-    let alloc = world.alloc;
     let class = &mut world.class;
     if !may_walk(class, seg, mode, WHO, moment) {
         return Ok(None);
@@ -76,7 +75,7 @@ pub(super) fn judge(
         passed: Passed::of(&[]),
     };
     let stripe = &mut world.stripe;
-    let context = context(alloc, moment, &world.config);
+    let context = context(moment, &world.config);
     let done = settle(context, class, stripe, number, &judge)?;
     Ok(Some((number, done)))
 }
@@ -92,28 +91,26 @@ fn judge_tail(world: &mut World, seg: Seg, moment: u64) -> Result<Option<Done>, 
 
 // Asks whether COLD's tail is dead.
 fn ask_tail(world: &mut World, moment: u64) -> Result<Option<Done>, Fault> {
-    let alloc = world.alloc;
     let class = &mut world.class;
     let Some(entry) = class.from_tail(Seg::Cold, 0) else {
         return Ok(None);
     };
     let number = entry.number;
     let stripe = &mut world.stripe;
-    let context = context(alloc, moment, &world.config);
+    let context = context(moment, &world.config);
     let done = settle(context, class, stripe, number, &Judge::Dead)?;
     Ok(Some(done))
 }
 
 // Judges COLD's tail by a hit.
 fn hit_tail(world: &mut World, moment: u64) -> Result<Option<Done>, Fault> {
-    let alloc = world.alloc;
     let class = &mut world.class;
     let Some(entry) = class.from_tail(Seg::Cold, 0) else {
         return Ok(None);
     };
     let number = entry.number;
     let stripe = &mut world.stripe;
-    let context = context(alloc, moment, &world.config);
+    let context = context(moment, &world.config);
     let done = settle(context, class, stripe, number, &Judge::Hit)?;
     Ok(Some(done))
 }

@@ -2,7 +2,7 @@ use Rattle.std.proofs.Common.{List, slice_get, ap, sym, subst, ◌∙◌}
 use Rattle.mc_board.specs.Views.{BoardView}
 use Rattle.mc_store.specs.{Finals.IsBehindStripes, Sides.AreClassesOn, Sides.AreStripesOn, Sides.ClassSide, Sides.StripeSide}
 use Rattle.mc_store.proofs.{ClosedLemmas.closed_entries, ClosedLemmas.closed_sound, NumberOrderLemmas.classes_on, NumberOrderLemmas.stripes_on}
-use Rattle.mc_store.proofs.comparing.judge.Goals as goal
+use Rattle.mc_store.proofs.comparing.compare_each_other.Goals as goal
 
 pub compare_from_stripes-requires-clause-stripes : goal.compare_from_stripes-requires-clause-stripes
 compare_from_stripes-requires-clause-stripes g c =
