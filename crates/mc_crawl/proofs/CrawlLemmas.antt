@@ -6,10 +6,10 @@ use Rattle.mc_item.specs.declared.{item.Expiry.TheVariants.At, item.StripeNo.Str
 use Rattle.mc_item.specs.{Cache.Cache, Item.is_dead, Measure.stripe_of}
 use Rattle.mc_rule.specs.{Lists.Lists, Lists.lists_of, Segment.Rule}
 use Rattle.mc_segment.specs.{ClassState.ClassView, Entries.entry_of}
-use Rattle.mc_stripe.specs.StripeState.{cache_now}
+use Rattle.mc_stripe.specs.StripeState.{Stripe, cache_now}
 use Rattle.mc_pull.specs.declared.{judge.Done.Done, judge.Judge.TheVariants.Dead, looking.Answer.Answer, looking.Judged.Judged}
 use Rattle.mc_pull.specs.declared.judge.Done.TheVariants as done
-use Rattle.mc_pull.specs.{Growth.GainsEvents, Judgement.done_by, Judgement.done_if, Judgement.done_with, Judgement.has_link, Looks.IsJudgedIf, Looks.answer_by}
+use Rattle.mc_pull.specs.{Growth.GainsEvents, Judgement.done_by, Judgement.done_if, Judgement.done_with, Judgement.has_link, Looks.IsReachedIf, Looks.answer_by}
 use Rattle.mc_pull.specs.{Looks.events_if, Settled.done_class_events, Settled.class_with}
 use Rattle.mc_pull.proofs.GrowthLemmas.{grows_itself}
 use Rattle.mc_crawl.specs.declared.kind.Kind.{Kind}
@@ -35,34 +35,35 @@ by_entry : (q : Crawl) (c : ClassView) (cache : Cache) (o : Option Entry) (e : E
 by_entry q c cache None e is = absurd (none_some is)
 by_entry q c cache (Some e') e is = by_item c.number q.number q.moment c.rule (lists_of c.history) e' (cache.items e'.key)
 
-kind_by : (q : Crawl) (c : ClassView) (e : Entry) (stripe : _) (j : Option Judged) → entry_of q.number (lists_of c.history) ≡ Some e
-    → IsJudgedIf q.config stripe c (asked_by q) j → IsKindIf q stripe c j (kind_answered q.moment j)
-kind_by q c e stripe None is judged = refl
-kind_by q c e stripe (Some j) is judged = record {
-  judged = judged;
-  kind_is = ap (kind_done q.moment) judged.done_is ∙ by_entry q c (cache_now judged.stripe) (entry_of q.number (lists_of c.history)) e is;
+kind_by : (R : Stripe → Type 0) (q : Crawl) (c : ClassView) (e : Entry) (stripe : _) (j : Option Judged) → entry_of q.number (lists_of c.history) ≡ Some e
+    → IsReachedIf R q.config stripe c (asked_by q) j → IsKindIf R q stripe c j (kind_answered q.moment j)
+kind_by R q c e stripe None is judged = refl
+kind_by R q c e stripe (Some j) is judged = record {
+  judged = judged.0;
+  reached = judged.1;
+  kind_is = ap (kind_done q.moment) judged.0.done_is ∙ by_entry q c (cache_now judged.0.stripe) (entry_of q.number (lists_of c.history)) e is;
 }
 
 -- the kind by what was answered
-pub kind_answered_is : (q : Crawl) (c : ClassView) (e : Entry) (stripe : StripeNo) (j : Option Judged) (k : Kind) → entry_of q.number (lists_of c.history) ≡ Some e
-    → IsKindIf q stripe c j k → k ≡ kind_answered q.moment j
-kind_answered_is q c e stripe None k is kind = kind
-kind_answered_is q c e stripe (Some j) k is kind =
+pub kind_answered_is : (R : Stripe → Type 0) (q : Crawl) (c : ClassView) (e : Entry) (stripe : StripeNo) (j : Option Judged) (k : Kind) → entry_of q.number (lists_of c.history) ≡ Some e
+    → IsKindIf R q stripe c j k → k ≡ kind_answered q.moment j
+kind_answered_is R q c e stripe None k is kind = kind
+kind_answered_is R q c e stripe (Some j) k is kind =
     kind.kind_is
     ∙ sym (ap (kind_done q.moment) kind.judged.done_is ∙ by_entry q c (cache_now kind.judged.stripe) (entry_of q.number (lists_of c.history)) e is)
 
 -- an entry that was looked at was crawled
-pub looked : (q : Crawl) (c c_new : ClassView) (xs ys : List Answer) (e : Entry) (stripe : StripeNo) (j : Option Judged) → entry_of q.number (lists_of c.history) ≡ Some e
+pub looked : (R : Stripe → Type 0) (q : Crawl) (c c_new : ClassView) (xs ys : List Answer) (e : Entry) (stripe : StripeNo) (j : Option Judged) → entry_of q.number (lists_of c.history) ≡ Some e
     → stripe ≡ stripe_of e.key q.config.stripes → ys ≡ xs ++ answer_by stripe j ∷ [] → c_new ≡ class_with c (events_if c (asked_by q) j) c_new.room
-    → IsJudgedIf q.config stripe c (asked_by q) j → IsCrawled q c c_new xs ys (kind_answered q.moment j)
-looked q c c_new xs ys e stripe j is place answers class judged =
-    let there = subst (λ (s : StripeNo). IsJudgedIf q.config s c (asked_by q) j) place judged in
-    subst (IsLookIf q c c_new xs ys (kind_answered q.moment j)) (sym is)
+    → IsReachedIf R q.config stripe c (asked_by q) j → IsCrawled R q c c_new xs ys (kind_answered q.moment j)
+looked R q c c_new xs ys e stripe j is place answers class judged =
+    let there = subst (λ (s : StripeNo). IsReachedIf R q.config s c (asked_by q) j) place judged in
+    subst (IsLookIf R q c c_new xs ys (kind_answered q.moment j)) (sym is)
     record {
       judged = j;
       answers = subst (λ (s : StripeNo). ys ≡ xs ++ answer_by s j ∷ []) place answers;
       class = class;
-      kind_is = kind_by q c e (stripe_of e.key q.config.stripes) j is there;
+      kind_is = kind_by R q c e (stripe_of e.key q.config.stripes) j is there;
     }
 
 -- ---- the events of the class
@@ -98,23 +99,23 @@ told_with : (q : Crawl) (c : ClassView) (at : ℕ) (cache : Cache) (o : Option E
 told_with q c at cache None = told_nothing q kinds.Gone (λ h. refl)
 told_with q c at cache (Some e) = told_item q c at c.rule (lists_of c.history) e (cache.items e.key)
 
-told_if : (q : Crawl) (c : ClassView) (stripe : StripeNo) (j : Option Judged) (k : Kind) → IsKindIf q stripe c j k → Told q (events_if c (asked_by q) j) k
-told_if q c stripe None k is = subst (Told q []) (sym is) (told_nothing q kinds.Passed (λ h. refl))
-told_if q c stripe (Some j) k is =
+told_if : (R : Stripe → Type 0) (q : Crawl) (c : ClassView) (stripe : StripeNo) (j : Option Judged) (k : Kind) → IsKindIf R q stripe c j k → Told q (events_if c (asked_by q) j) k
+told_if R q c stripe None k is = subst (Told q []) (sym is) (told_nothing q kinds.Passed (λ h. refl))
+told_if R q c stripe (Some j) k is =
     subst (Told q (done_class_events c (asked_by q) j.at j.done)) (sym is.kind_is)
     (subst (λ (d : Done). Told q (done_class_events c (asked_by q) j.at d) (kind_with c.number (cache_now is.judged.stripe) q.number q.moment (entry_of q.number (lists_of c.history)))) (sym is.judged.done_is)
     (told_with q c j.at (cache_now is.judged.stripe) (entry_of q.number (lists_of c.history))))
 
-module _ (q : Crawl) (c c_new : ClassView) (xs ys : List Answer) (k : Kind) where
-  reclaims_if : (h : Histogram) (o : Option Entry) → IsLookIf q c c_new xs ys k o → Reclaims q.who q.moment c.history c_new.history h.reclaimed (counted_as k h).reclaimed
+module _ (R : Stripe → Type 0) (q : Crawl) (c c_new : ClassView) (xs ys : List Answer) (k : Kind) where
+  reclaims_if : (h : Histogram) (o : Option Entry) → IsLookIf R q c c_new xs ys k o → Reclaims q.who q.moment c.history c_new.history h.reclaimed (counted_as k h).reclaimed
   reclaims_if h None gone =
       let told : Told q [] k = subst (Told q []) (sym gone.kind_is) (told_nothing q kinds.Gone (λ h. refl)) in
       record { events = []; each = tt; history_is = ap (λ (v : ClassView). v.history) gone.class ∙ sym (append-nil c.history); count = told.count h }
   reclaims_if h (Some e) look =
-      let told = told_if q c (stripe_of e.key q.config.stripes) look.judged k look.kind_is in
+      let told = told_if R q c (stripe_of e.key q.config.stripes) look.judged k look.kind_is in
       record { events = events_if c (asked_by q) look.judged; each = told.each; history_is = ap (λ (v : ClassView). v.history) look.class; count = told.count h }
 
-  grows_if : (o : Option Entry) → IsLookIf q c c_new xs ys k o → GainsEvents c c_new
+  grows_if : (o : Option Entry) → IsLookIf R q c c_new xs ys k o → GainsEvents c c_new
   grows_if None gone = subst (GainsEvents c) (sym gone.class) (grows_itself c)
   grows_if (Some e) look =
       let more : c_new.history ≡ c.history ++ events_if c (asked_by q) look.judged = ap (λ (v : ClassView). v.history) look.class in
@@ -125,9 +126,22 @@ module _ (q : Crawl) (c c_new : ClassView) (xs ys : List Answer) (k : Kind) wher
       }
 
   -- the class has as many events more as were counted as reclaimed
-  pub crawled_reclaims : (h : Histogram) → IsCrawled q c c_new xs ys k → Reclaims q.who q.moment c.history c_new.history h.reclaimed (counted_as k h).reclaimed
+  pub crawled_reclaims : (h : Histogram) → IsCrawled R q c c_new xs ys k → Reclaims q.who q.moment c.history c_new.history h.reclaimed (counted_as k h).reclaimed
   crawled_reclaims h crawled = reclaims_if h (entry_of q.number (lists_of c.history)) crawled
 
   -- the class has only grown
-  pub crawled_grows : IsCrawled q c c_new xs ys k → GainsEvents c c_new
+  pub crawled_grows : IsCrawled R q c c_new xs ys k → GainsEvents c c_new
   crawled_grows crawled = grows_if (entry_of q.number (lists_of c.history)) crawled
+
+-- a kind that goes by some states goes by others of which more is known
+module _ (R Q : Stripe → Type 0) (more : (s : Stripe) → R s → Q s) (q : Crawl) (c c_new : ClassView) (xs ys : List Answer) (k : Kind) where
+  kind_more : (stripe : StripeNo) (j : Option Judged) → IsKindIf R q stripe c j k → IsKindIf Q q stripe c j k
+  kind_more stripe None is = is
+  kind_more stripe (Some j) is = record { judged = is.judged; reached = more is.judged.stripe is.reached; kind_is = is.kind_is }
+
+  look_more : (o : Option Entry) → IsLookIf R q c c_new xs ys k o → IsLookIf Q q c c_new xs ys k o
+  look_more None gone = gone
+  look_more (Some e) look = record { judged = look.judged; answers = look.answers; class = look.class; kind_is = kind_more (stripe_of e.key q.config.stripes) look.judged look.kind_is }
+
+  pub crawled_more : IsCrawled R q c c_new xs ys k → IsCrawled Q q c c_new xs ys k
+  crawled_more crawled = look_more (entry_of q.number (lists_of c.history)) crawled

@@ -66,7 +66,7 @@ pub record CrawlsLiving (s : Sighting) (h h_new : Histogram) : Type 0 where
   pub kind : Kind
   pub stripe : StripeNo
   pub at : ℕ
-  pub crawled : IsCrawled q class class_new before after kind
+  pub crawled : IsCrawled (λ state. Unit {0}) q class class_new before after kind
   pub answered : after ≡ before ++ answer_by stripe (Some (judgement (done.Alive s.expiry) at)) ∷ []
   pub moment_is : q.moment ≡ s.moment
   pub counted : h_new ≡ counted_as kind h

@@ -18,7 +18,8 @@ fn kind_at<G: Gate>(
     gate: &mut G,
 ) -> Result<Kind, Fault>
     requires gate { IsServedBy G.serves context.config.now context.turn.who gate.old class.old }
-    ensures crawled { IfOk result (IsCrawled (crawl_by context.entry number) class.old class.new (G.answers gate.old) (G.answers gate.new)) }
+    ensures crawled { IfOk result (IsCrawled (G.reaches gate.old gate.new) (crawl_by context.entry number) class.old class.new (G.answers
+        gate.old) (G.answers gate.new)) }
     ensures counted { IfOk result IsCounted }
     ensures err { OnErr result ((class.new ≡ with_room class.old class.new.room) × (G.answers gate.new ≡ G.answers gate.old)) }
     ensures fault { IfErr result (G.faults gate.new class.new) }
@@ -45,8 +46,8 @@ pub fn crawl_one<G: Gate>(
 ) -> Result<(), Fault>
     requires gate { IsServedBy G.serves context.config.now context.turn.who gate.old class.old }
     requires counts { MayCount histogram.old }
-    ensures crawled { OnOk result (HasCounted (crawl_by context.entry link.number) class.old class.new (G.answers gate.old) (G.answers gate.new)
-        histogram.old histogram.new) }
+    ensures crawled { OnOk result (HasCounted (G.reaches gate.old gate.new) (crawl_by context.entry link.number) class.old class.new
+        (G.answers gate.old) (G.answers gate.new) histogram.old histogram.new) }
     ensures balanced { IsBalanced histogram.old → IsBalanced histogram.new }
     ensures err { OnErr result ((class.new ≡ with_room class.old class.new.room) × (G.answers gate.new ≡ G.answers gate.old) × (histogram.new ≡
         histogram.old)) }

@@ -9,8 +9,8 @@ use mc_item::{Fault, Histogram, Link};
 use mc_pull::{Context, Lone};
 use mc_segment::ClassState;
 
-/// Crawls one link as `crawl_one` does. As this gate has a single stripe, the contract adds: the gate still holds it, it has
-/// gained only events of this call, and histories that agreed with it still agree.
+/// Crawls one link as `crawl_one` does. As this gate has a single stripe, the contract adds: the link is counted by just that
+/// stripe as it was, the gate still holds it, it has gained only events of this call, and histories that agreed with it still agree.
 pub fn crawl_lone(
     context: Context<'_>,
     class: &mut ClassState,
@@ -20,8 +20,8 @@ pub fn crawl_lone(
 ) -> Result<(), Fault>
     requires gate { IsServedAlone gate.old context.config.now class.old }
     requires counts { MayCount histogram.old }
-    ensures crawled { OnOk result (HasCounted (crawl_by context.entry link.number) class.old class.new gate.old.answers.now.items gate.new.answers.now.items
-        histogram.old histogram.new) }
+    ensures crawled { OnOk result (HasCounted (λ state. state ≡ gate.old.stripe.now) (crawl_by context.entry link.number) class.old class.new
+        gate.old.answers.now.items gate.new.answers.now.items histogram.old histogram.new) }
     ensures balanced { IsBalanced histogram.old → IsBalanced histogram.new }
     ensures err { OnErr result ((class.new ≡ with_room class.old class.new.room) × (gate.new.answers.now.items ≡ gate.old.answers.now.items) × (histogram.new
         ≡ histogram.old)) }

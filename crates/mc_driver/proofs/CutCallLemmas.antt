@@ -18,7 +18,7 @@ use Rattle.mc_segment.specs.ClassState.{ClassView}
 use Rattle.mc_stripe.specs.{Plan.visible_row, StripeState.stripe}
 use Rattle.mc_store.specs.{Accounts.Enters, Accounts.IsOfCommand, Accounts.IsOfWalk, Accounts.Stretch, Calls.HasGained, Calls.IsCutBy, Calls.IsJuggleCut, Calls.IsJuggledTill, Calls.IsUpkeepCut}
 use Rattle.mc_store.specs.{Crawls.AreLinksCounted, Crawls.IsCrawledTill, Locked.class_lock, Locked.setting_of, Passes.PassView}
-use Rattle.mc_store.specs.{Passes.next_who, Searches.IsSearchUpTo, Sides.class_told, Sides.stripe_told}
+use Rattle.mc_store.specs.{Passes.next_who, Reached.seen_stripes, Searches.IsSearchUpTo, Sides.class_told, Sides.stripe_told}
 use Rattle.mc_store.proofs.{EarnedRefusalLemmas.opened_again, LockKeepsLemmas.site_of_number, SyncedStepLemmas.map_length}
 use Rattle.mc_driver.specs.{Caller.EntersOnly, Caller.IsBefore, Caller.histories_seen, Cut.NotesJugglingCut, Cut.NotesSearchUpTo}
 use Rattle.mc_driver.specs.Stand.{BreaksOffAfter, stripe_number}
@@ -156,20 +156,23 @@ module _ (config : Config) (class : ClassNo) (before after : PassView) (moment :
   }
 
 -- what was seen when links were counted is a class's history told
-counted_told : (config : Config) (class : ClassNo) (at : List ClassEvent) (seen until : List Event) (who : Who) (moment : ℕ) (links : List Link) (stretches : List Stretch) (h h_new : Histogram)
-    → seen ≡ class_told at → AreLinksCounted config class seen until who moment links stretches h h_new → (end : List ClassEvent) × (until ≡ class_told end)
-counted_told config class at seen until who moment [] [] h h_new is counted = (at, counted.0 ∙ is)
-counted_told config class at seen until who moment [] (stretch ∷ stretches) h h_new is counted = absurd counted
-counted_told config class at seen until who moment (link ∷ links) [] h h_new is counted = absurd counted
-counted_told config class at seen until who moment (link ∷ links) (stretch ∷ stretches) h h_new is counted =
-    counted_told config class counted.2.new.history counted.0 until who moment links stretches counted.1 h_new counted.2.now counted.3
+counted_told : (config : Config) (class : ClassNo) (older newer : ℕ → List StripeEvent) (at : List ClassEvent) (seen until : List Event) (who : Who) (moment : ℕ)
+    (links : List Link) (stretches : List Stretch) (h h_new : Histogram)
+    → seen ≡ class_told at → AreLinksCounted config class older newer seen until who moment links stretches h h_new → (end : List ClassEvent) × (until ≡ class_told end)
+counted_told config class older newer at seen until who moment [] [] h h_new is counted = (at, counted.0 ∙ is)
+counted_told config class older newer at seen until who moment [] (stretch ∷ stretches) h h_new is counted = absurd counted
+counted_told config class older newer at seen until who moment (link ∷ links) [] h h_new is counted = absurd counted
+counted_told config class older newer at seen until who moment (link ∷ links) (stretch ∷ stretches) h h_new is counted =
+    counted_told config class older newer counted.2.new.history counted.0 until who moment links stretches counted.1 h_new counted.2.now counted.3
 
 -- of a crawl
 pub crawl_broke : (config : Config) (class : ClassNo) (before after : PassView) (moment : ℕ) → IsClass (setting_of config) class → Grows before.sight after.sight → IsBefore before.turn before.made
     → IsCrawledTill config class before after moment
     → BreaksOffAfter (EntersOnly after) config (histories_seen config before.sight) (histories_seen config after.sight) (next_who before) (begun_call (Crawls class) moment)
 crawl_broke config class before after moment is grows earlier till =
-    let told = counted_told config class till.history (class_told till.history) till.until (next_who before) moment till.links till.stretches _ till.histogram refl till.counted in
+    let older = seen_stripes before.sight in
+    let newer = seen_stripes after.sight in
+    let told = counted_told config class older newer till.history (class_told till.history) till.until (next_who before) moment till.links till.stretches _ till.histogram refl till.counted in
     record {
       grew = seen_grow config before.sight after.sight grows;
       placed = is;
@@ -182,7 +185,7 @@ crawl_broke config class before after moment is grows earlier till =
           stretches = till.stretches;
           histogram = till.histogram;
           end = told.0;
-          counted = subst (λ (es : List Event). AreLinksCounted config class (class_told till.history) es (next_who before) moment till.links till.stretches _ till.histogram) told.1 till.counted;
+          counted = subst (λ (es : List Event). AreLinksCounted config class older newer (class_told till.history) es (next_who before) moment till.links till.stretches _ till.histogram) told.1 till.counted;
           begins = class_seen_begins config after.sight class told.0 (subst (λ (es : List Event). IsPrefix es (list_at after.sight.seen (class_lock config class))) told.1 till.now);
         },
         entered_only before after _ _ earlier till.account (λ lock place event at mine suits. suits),

@@ -18,7 +18,7 @@ use Rattle.mc_segment.specs.{ClassCalls.limited_event, ClassState.ClassView}
 use Rattle.mc_stripe.specs.{Plan.dead_link, Plan.visible_row, StripeState.Stripe, StripeState.stripe}
 use Rattle.mc_store.specs.{Accounts.Enters, Accounts.IsOfCommand, Accounts.IsOfWalk, Accounts.Stretch, Commands.IsSearch, Commands.LeadsUp, Commands.burial, Searches.IsSearchFor}
 use Rattle.mc_store.specs.{Calls.IsJuggledBy, Calls.HasGained, Calls.IsRepliedBy, Locked.setting_of, Locked.class_lock, Sides.class_told, Sides.stripe_told, Crawls.AreLinksCounted}
-use Rattle.mc_store.specs.{Crawls.HasReclaims, Crawls.IsCrawledBy, Earned.IsLastResort, Passes.PassView, Passes.next_who}
+use Rattle.mc_store.specs.{Crawls.HasReclaims, Crawls.IsCrawledBy, Earned.IsLastResort, Passes.PassView, Passes.next_who, Reached.seen_stripes}
 use Rattle.mc_store.proofs.{EarnedRefusalLemmas.opened_again, LockKeepsLemmas.site_of_number}
 use Rattle.mc_driver.specs.{Caller.EntersOnly, Caller.IsBefore, Caller.histories_seen, Noted.answered_command, Noted.answered_event, Noted.stripe_with, Searched.NotesSearchFor}
 use Rattle.mc_driver.specs.Stand.{Grow, StandsBetween, stripe_number}
@@ -191,8 +191,10 @@ crawled_between config class before after moment histogram is grows earlier by =
           rest = [];
           ends = now ∙ sym (append-nil whole.history);
           stretches = by.stretches;
-          counted = subst (λ (ls : List Link). AreLinksCounted config class (class_told snapshot.history) (class_told whole.history) who moment ls by.stretches no_counts histogram) snapshot.links_are
-              (subst (λ (es : List Event). AreLinksCounted config class (class_told snapshot.history) es who moment snapshot.links by.stretches no_counts histogram) whole.now by.counted);
+          counted = subst (λ (ls : List Link). AreLinksCounted config class (seen_stripes before.sight) (seen_stripes after.sight) (class_told snapshot.history) (class_told whole.history) who moment ls
+              by.stretches no_counts histogram) snapshot.links_are
+              (subst (λ (es : List Event). AreLinksCounted config class (seen_stripes before.sight) (seen_stripes after.sight) (class_told snapshot.history) es who moment snapshot.links by.stretches no_counts
+              histogram) whole.now by.counted);
           balanced = by.balanced;
           since = class_events shown.events;
           since_is = ap class_events (sym shown.events_are) ∙ class_events-append old shown.events;

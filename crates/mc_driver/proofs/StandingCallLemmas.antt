@@ -1,5 +1,5 @@
 -- Calls that stand in histories, or broke off in them, go on doing so where these grow, and after less that was seen.
-use Rattle.std.proofs.Common.{◌≡◌, ℕ, zero, suc, List, [], ◌∷◌, ◌++◌, Option, None, Some, sym, ap, ◌∙◌, append_assoc, subst, refl, inl, inr}
+use Rattle.std.proofs.Common.{◌≡◌, ◌<◌, ℕ, zero, suc, List, [], ◌∷◌, ◌++◌, Option, None, Some, sym, ap, ◌∙◌, append_assoc, subst, refl, inl, inr}
 use Rattle.std.specs.List.{slice_get}
 use mathlib.Core.List.{IsPrefix}
 use Rattle.mc_item.specs.declared.{class_event.ClassEvent.ClassEvent, command.Command.Command, config.Config.Config, counts.Histogram.Histogram}
@@ -12,6 +12,10 @@ use Rattle.mc_proto.specs.Answers.{Answer, Counted, Limited, Moved, Replied}
 use Rattle.mc_script.specs.Exchanges.{Asks, Begun, Crawls, Exchange, Juggles, Limits, ScriptCall}
 use Rattle.mc_segment.specs.ClassCalls.{limited_event, refused_event}
 use Rattle.mc_store.specs.{Accounts.Stretch, Crawls.HasReclaims, Earned.IsLastResort, Locked.setting_of, Sides.class_told}
+use Rattle.mc_store.proofs.CrawledLemmas.{links_wider}
+use Rattle.mc_item.specs.Counts.{no_counts}
+use Rattle.mc_crawl.specs.Snapshot.{links_of}
+use Rattle.mc_segment.specs.ClassState.{opened}
 use Rattle.mc_stripe.specs.Plan.{visible_row}
 use Rattle.mc_driver.specs.Cut.{NotesCommandCut, NotesCrawlingCut, NotesJugglingCut, NotesSearchUpTo}
 use Rattle.mc_driver.specs.Noted.{NotesCommand, NotesCrawling, NotesJuggling, NotesLimit, answered_command, answered_event, stripe_with}
@@ -130,9 +134,10 @@ reclaims_behind who moment many [] ys some = some
 reclaims_behind who moment many (x ∷ xs) ys some = inl (reclaims_behind who moment many xs ys some)
 
 -- and so is a crawl
-crawling_on : (config : Config) (less seen history longer : List ClassEvent) (who : Who) (class : ClassNo) (moment : ℕ) (histogram : Histogram) → IsPrefix less seen → IsPrefix history longer
-    → NotesCrawling config seen history who class moment histogram → NotesCrawling config less longer who class moment histogram
-crawling_on config less seen history longer who class moment histogram begins more noted =
+crawling_on : (config : Config) (earlier older newer later : ℕ → List StripeEvent) (less seen history longer : List ClassEvent) (who : Who) (class : ClassNo) (moment : ℕ) (histogram : Histogram)
+    → ((n : ℕ) → n < config.stripes → IsPrefix (earlier n) (older n)) → ((n : ℕ) → n < config.stripes → IsPrefix (newer n) (later n)) → IsPrefix less seen → IsPrefix history longer
+    → NotesCrawling config older newer seen history who class moment histogram → NotesCrawling config earlier later less longer who class moment histogram
+crawling_on config earlier older newer later less seen history longer who class moment histogram first last begins more noted =
     let since = noted.since ++ more.0 in
     let there : longer ≡ seen ++ since = sym more.1 ∙ (ap (λ (h : List ClassEvent). h ++ more.0) noted.since_is ∙ append_assoc seen noted.since more.0) in
     record {
@@ -145,7 +150,8 @@ crawling_on config less seen history longer who class moment histogram begins mo
       rest = noted.rest ++ more.0;
       ends = sym more.1 ∙ (ap (λ (h : List ClassEvent). h ++ more.0) noted.ends ∙ append_assoc noted.end noted.rest more.0);
       stretches = noted.stretches;
-      counted = noted.counted;
+      counted = links_wider config earlier older newer later first last class (class_told noted.at) (class_told noted.end) who moment (links_of (record (opened config class) { history = noted.at })) noted.stretches
+          no_counts histogram noted.counted;
       balanced = noted.balanced;
       since = begins.0 ++ since;
       since_is = there ∙ (ap (λ (h : List ClassEvent). h ++ since) (sym begins.1) ∙ append_assoc less begins.0 since);
@@ -213,9 +219,10 @@ juggling_cut_on config less seen history longer who class moment begins more not
   begins = prefix_trans noted.after history longer noted.begins more;
 }
 
-crawling_cut_on : (config : Config) (less seen history longer : List ClassEvent) (who : Who) (class : ClassNo) (moment : ℕ) → IsPrefix less seen → IsPrefix history longer
-    → NotesCrawlingCut config seen history who class moment → NotesCrawlingCut config less longer who class moment
-crawling_cut_on config less seen history longer who class moment begins more noted = record {
+crawling_cut_on : (config : Config) (earlier older newer later : ℕ → List StripeEvent) (less seen history longer : List ClassEvent) (who : Who) (class : ClassNo) (moment : ℕ)
+    → ((n : ℕ) → n < config.stripes → IsPrefix (earlier n) (older n)) → ((n : ℕ) → n < config.stripes → IsPrefix (newer n) (later n)) → IsPrefix less seen → IsPrefix history longer
+    → NotesCrawlingCut config older newer seen history who class moment → NotesCrawlingCut config earlier later less longer who class moment
+crawling_cut_on config earlier older newer later less seen history longer who class moment first last begins more noted = record {
   at = noted.at;
   past = prefix_trans less seen noted.at begins noted.past;
   links = noted.links;
@@ -223,7 +230,7 @@ crawling_cut_on config less seen history longer who class moment begins more not
   stretches = noted.stretches;
   histogram = noted.histogram;
   end = noted.end;
-  counted = noted.counted;
+  counted = links_wider config earlier older newer later first last class (class_told noted.at) (class_told noted.end) who moment noted.links noted.stretches no_counts noted.histogram noted.counted;
   begins = prefix_trans noted.end history longer noted.begins more;
 }
 
@@ -238,7 +245,7 @@ module _ (makes : Who → ((lock place : ℕ) → Event → Type 0) → Type 0) 
   stands_on config less seen old new who moment (Juggles class) (Moved moves) begins grow placed stands =
       (juggling_on config _ _ _ _ who class moment moves (begins.classes class placed) (grow.classes class placed) stands.0, stands.1)
   stands_on config less seen old new who moment (Crawls class) (Counted histogram) begins grow placed stands =
-      (crawling_on config _ _ _ _ who class moment histogram (begins.classes class placed) (grow.classes class placed) stands.0, stands.1)
+      (crawling_on config _ _ _ _ _ _ _ _ who class moment histogram begins.stripes grow.stripes (begins.classes class placed) (grow.classes class placed) stands.0, stands.1)
   stands_on config less seen old new who moment (Limits class n) Limited begins grow placed stands =
       (limit_on _ _ _ _ who n (begins.classes class placed) (grow.classes class placed) stands.0, stands.1)
   stands_on config less seen old new who moment call answer begins grow placed stands = absurd stands
@@ -296,7 +303,7 @@ module _ (makes : Who → ((lock place : ℕ) → Event → Type 0) → Type 0) 
   breaks_on config less seen old new who moment (Juggles class) begins grow placed left =
       (juggling_cut_on config _ _ _ _ who class moment (begins.classes class placed) (grow.classes class placed) left.0, left.1)
   breaks_on config less seen old new who moment (Crawls class) begins grow placed left =
-      (crawling_cut_on config _ _ _ _ who class moment (begins.classes class placed) (grow.classes class placed) left.0, left.1)
+      (crawling_cut_on config _ _ _ _ _ _ _ _ who class moment begins.stripes grow.stripes (begins.classes class placed) (grow.classes class placed) left.0, left.1)
   breaks_on config less seen old new who moment (Limits class n) begins grow placed left = left
 
   -- it broke off after less that was seen, too, in histories that grow

@@ -59,8 +59,9 @@ pub record NotesJugglingCut (config : Config) (seen history : List ClassEvent) (
   pub begins : IsPrefix after history
 
 -- a class's history has the beginning of a call's crawl: the first of the entries at one point after what was seen, counted one by
--- one, each in its stretch of the history
-pub record NotesCrawlingCut (config : Config) (seen history : List ClassEvent) (who : Who) (class : ClassNo) (moment : ℕ) : Type 0 where
+-- one, each in its stretch of the history, and by the item that its stripe had after `older`, which was seen of it, and by `newer`
+pub record NotesCrawlingCut (config : Config) (older newer : ℕ → List StripeEvent) (seen history : List ClassEvent) (who : Who) (class : ClassNo) (moment : ℕ)
+    : Type 0 where
   pub at : List ClassEvent
   pub past : IsPrefix seen at
   pub links : List Link
@@ -68,5 +69,5 @@ pub record NotesCrawlingCut (config : Config) (seen history : List ClassEvent) (
   pub stretches : List Stretch
   pub histogram : Histogram
   pub end : List ClassEvent
-  pub counted : AreLinksCounted config class (class_told at) (class_told end) who moment links stretches no_counts histogram
+  pub counted : AreLinksCounted config class older newer (class_told at) (class_told end) who moment links stretches no_counts histogram
   pub begins : IsPrefix end history

@@ -90,9 +90,10 @@ pub record NotesJuggling (config : Config) (seen history : List ClassEvent) (who
   pub juggled : IsJuggle (rounds (opened config class) who moment config) (before ++ advances) answers ((before ++ advances) ++ own) moves
 
 -- a class's history has a call's crawl: the entries at one point after what was seen, counted one by one, each in its stretch of the
--- history, give this histogram. The events after what was seen have a `Reclaimed` by this call, at this moment, for each that it
--- counts as reclaimed
-pub record NotesCrawling (config : Config) (seen history : List ClassEvent) (who : Who) (class : ClassNo) (moment : ℕ) (histogram : Histogram) : Type 0 where
+-- history, give this histogram. Each was counted by the item that its stripe had after `older`, which was seen of it, and by `newer`. The
+-- events after what was seen have a `Reclaimed` by this call, at this moment, for each that it counts as reclaimed
+pub record NotesCrawling (config : Config) (older newer : ℕ → List StripeEvent) (seen history : List ClassEvent) (who : Who) (class : ClassNo) (moment : ℕ)
+    (histogram : Histogram) : Type 0 where
   pub at : List ClassEvent
   pub behind : List ClassEvent
   pub past : IsPrefix seen at
@@ -102,8 +103,8 @@ pub record NotesCrawling (config : Config) (seen history : List ClassEvent) (who
   pub rest : List ClassEvent
   pub ends : history ≡ end ++ rest
   pub stretches : List Stretch
-  pub counted : AreLinksCounted config class (class_told at) (class_told end) who moment (links_of (record (opened config class) { history = at })) stretches
-      no_counts histogram
+  pub counted : AreLinksCounted config class older newer (class_told at) (class_told end) who moment (links_of (record (opened config class) { history = at }))
+      stretches no_counts histogram
   pub balanced : IsBalanced histogram
   pub since : List ClassEvent
   pub since_is : history ≡ seen ++ since

@@ -68,7 +68,7 @@ module _ (makes : Who → ((lock place : ℕ) → Event → Type 0) → Type 0) 
       (noted : NotesJuggling config (seen.classes class) (histories.classes class) who class moment moves)
       × makes who (IsOfStretch config class (record { from = length noted.before; until = length ((noted.before ++ noted.advances) ++ noted.own) }))
   StandsAs config seen histories who moment (Crawls class) (Counted histogram) =
-      (noted : NotesCrawling config (seen.classes class) (histories.classes class) who class moment histogram)
+      (noted : NotesCrawling config seen.stripes histories.stripes (seen.classes class) (histories.classes class) who class moment histogram)
       × makes who (IsOfStretches config class noted.stretches)
   StandsAs config seen histories who moment (Limits class n) Limited =
       (noted : NotesLimit (seen.classes class) (histories.classes class) who n)
@@ -98,7 +98,7 @@ module _ (makes : Who → ((lock place : ℕ) → Event → Type 0) → Type 0) 
       (noted : NotesJugglingCut config (seen.classes class) (histories.classes class) who class moment)
       × makes who (IsOfStretch config class (record { from = 0; until = length noted.after }))
   BreaksOffAs config seen histories who moment (Crawls class) =
-      (noted : NotesCrawlingCut config (seen.classes class) (histories.classes class) who class moment)
+      (noted : NotesCrawlingCut config seen.stripes histories.stripes (seen.classes class) (histories.classes class) who class moment)
       × makes who (IsOfStretches config class noted.stretches)
   BreaksOffAs config seen histories who moment (Limits class n) = makes who (λ lock place event. ⊥)
 

@@ -14,15 +14,15 @@ when the input has ended and its scripts have run.
   get, gets <key>..    gat, gats <exptime> <key>..    touch <key> <exptime>    delete <key>    quit
   set, add, replace, append, prepend <key> <flags> <exptime> <bytes>    incr, decr <key> <delta>
   cas <key> <flags> <exptime> <bytes> <cas number>
-A line ends in CR LF or in LF. Behind a storage line (set to prepend, and cas) comes its block: as
-many bytes as the line says, and then always CR LF. Behind a line that is refused no block is
-skipped. Each line but those of get, gets, gat, gats, quit and directives may have the word noreply
-behind its last: then nothing is printed for it, not even what is wrong with it.
+A line ends in CR LF or in LF. After a storage line (set to prepend, and cas) comes its block: as
+many bytes as the line says, then CR LF. After a line that is refused no block is skipped. All lines
+but those of get, gets, gat, gats, quit and directives may end in the word noreply. Then nothing is
+printed for the line, not even what is wrong with it.
 
-Directives stand in the place of a command:
-  %at <second>      sets the moment, at first 1000, for what follows; it has no reply
+Directives are lines in the place of a command:
+  %at <second>      sets the time, at first 1000, for what follows; it has no reply
   %juggle <class>   works on the lists of a slab class, and prints JUGGLED, how many entries it
-  %juggle all       reclaimed, and how many it moved; of all classes it prints the sums
+  %juggle all       reclaimed, and how many it moved; for all classes it prints the sums
   %crawl <class>    looks at each entry of a slab class, reclaims the dead, and prints CRAWL and how
   %crawl all        many it saw, reclaimed, passed, found gone, saw without exptime and saw with an
                     hour or more to live; then MINUTE, i and how many have i minutes left; then END
@@ -32,50 +32,50 @@ Directives stand in the place of a command:
   %next             begins the next script
 Slab classes are numbered from 1, in the order of their sizes.
 
-The input is cut at each %next into scripts. Each runs at the same time as the others, as a caller
-of its own, and begins at moment 1000. Replies are printed script by script when all have ended.
-quit ends the script: what follows it up to a %next is read and ignored. With --upkeep every slab
-class is juggled by the maintainer and crawled by the crawler at each of the moments in order,
-beside the scripts; nothing is printed of that.
+The input is cut at each %next into scripts. They run at the same time, each as a caller of its own
+that begins at the time 1000. Replies are printed script by script when all have ended. quit ends
+the script: what follows it up to a %next is read and ignored. With --upkeep the maintainer juggles
+and the crawler crawls every slab class at each of the times in order, beside the scripts. Neither
+prints anything.
 
 With --follow the input is one script, and is answered as it comes: before the program reads on, it
-has printed the replies to all requests that are whole. %next ends that script, as quit does.
+prints the replies to all requests that are whole. %next ends that script, as quit does.
 
 Limits:
   key           1 to 250 bytes, none of them NUL, LF, CR or space
   line          65,536 bytes before its LF
   flags         below 2^32
   exptime       1 to 18 digits with or without a minus sign: 0 is never, up to 2,592,000 are seconds
-                from the moment on, above that it is a moment, and below 0 it is over at once
+                from now on, a larger number is a time, and below 0 the item is dead at once
   value         the size of the largest slab class, less 64 bytes and those of the key
   delta         below 2^64, as a cas number
-  moment        0 to 2^62
+  time          0 to 2^62 seconds
   scripts       1 to 62
-  upkeep        1 to 1,000 moments
+  upkeep        1 to 1,000 times
 
-An item has a chunk of the smallest slab class that holds 64 bytes, its key and its value. Where
-that class has no free chunk, one is taken from an item near the tail of the class's lists; where
-none can be taken, the reply is SERVER_ERROR out of memory storing object.
+An item has a chunk of the smallest slab class that holds 64 bytes, its key and its value. If that
+class has no free chunk, one is taken from an item near the tail of the class's lists. If none can
+be taken, the reply is SERVER_ERROR out of memory storing object.
 
 Each key belongs to one stripe. Each stripe and each slab class counts its events, as many as
---events allows, and keeps none: a stripe one for each command that is answered, one for each key of
-a get or gat, for each item that goes since it is dead or its chunk is taken, and for each mark that
-is cleared; a class one for each entry that comes, moves or goes, one for each %chunks, and one or
-two for each %juggle or moment of upkeep. A script's calls count against --events too, as do those
-of upkeep: one for each command, for each class that is juggled or crawled, and for each %chunks. So
-memory holds the items, and without --follow the input and the replies too. With n stripes the new
-versions of a stripe's items have cas numbers n apart.
+--events allows. A stripe counts one for each command that is answered (of a get or gat one for each
+key), for each item that is removed since it is dead or its chunk is taken, and for each mark that
+is cleared. A class counts one for each entry that is added, moved or removed, one for each %chunks,
+and one or two for each %juggle or time of upkeep. A script's calls count against --events too, as
+do those of upkeep: one for each command, for each class that is juggled or crawled, and for each
+%chunks. No event is kept: memory holds the items, and without --follow the input and the replies.
+With n stripes the new versions of a stripe's items have cas numbers n apart.
 
 Exit statuses, and the lines on standard error:
   0  all went well, or help or the version was printed
-  1  memory or a history ran out; what was answered before is printed
+  1  memory or a history ran out; what was answered until then is printed
        mcseg: out of memory
        mcseg: history full                raise --events
   2  the words of the command line or the number of scripts were refused
        error: <what is wrong>             no options as above, or no number behind one
        mcseg: a word of the command line is not UTF-8
        mcseg: bad list                    no decimal numbers with one comma between two, or upkeep
-                                          at more than 1,000 moments or at one above 2^62
+                                          at more than 1,000 times or at one above 2^62
        mcseg: too many scripts            more than 62
        mcseg: bad configuration <number>  the first of these that is out of its bounds:
          1 stripes   1, 2, 4, 8, 16, 32 or 64
@@ -88,6 +88,7 @@ Exit statuses, and the lines on standard error:
   3  reading or writing failed, or the system gave no random numbers
        mcseg: input failed
        mcseg: output failed
+       mcseg: no words of the command line: <why>
        mcseg: no random numbers: <why>
 
 Example:

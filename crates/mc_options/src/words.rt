@@ -89,7 +89,7 @@ fn upkeep_option<'a>(alloc: Global) -> Arg<'a>
         .action(ArgAction::Set)
         .value_name("m,m,..")
         .help(
-            "the moments at which the maintainer juggles and the crawler crawls{n}every slab class, beside the scripts: at most 1,000, each at most{n}2^62 [default: none]",
+            "the times at which the maintainer juggles and the crawler crawls{n}every slab class, beside the scripts: at most 1,000, each at most{n}2^62 [default: none]",
         )
 }
 

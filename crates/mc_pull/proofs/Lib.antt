@@ -4,6 +4,7 @@ mod SettledLemmas
 mod WarmLemmas
 mod JudgementKeepsLemmas
 pub mod LengthLemmas
+pub mod ReachedLemmas
 pub mod GrowthLemmas
 pub mod LeavesGateLemmas
 pub mod ChunkEventLemmas

@@ -35,12 +35,22 @@ abbrev pub IsJudgedIf : Config → StripeNo → ClassView → Question → Optio
 IsJudgedIf config number c q None = Unit {0}
 IsJudgedIf config number c q (Some j) = IsJudged config number c q j
 
+-- what was done follows from a state of this stripe of which `R` holds
+abbrev pub IsJudgedBy : (Stripe → Type 0) → Config → StripeNo → ClassView → Question → Judged → Type 0
+IsJudgedBy R config number c q j = (judged : IsJudged config number c q j) × R judged.stripe
+
+-- if the stripe was reached, what was done follows from a state of it of which `R` holds
+abbrev pub IsReachedIf : (Stripe → Type 0) → Config → StripeNo → ClassView → Question → Option Judged → Type 0
+IsReachedIf R config number c q None = Unit {0}
+IsReachedIf R config number c q (Some j) = IsJudgedBy R config number c q j
+
 -- a gate answered a look: it was asked for the stripe once, the class gained just the answer's events, and if the stripe was
--- reached, what was done follows from a state of it
-pub record IsAnswered (config : Config) (stripe : StripeNo) (q : Question) (c c_new : ClassView) (xs ys : List Answer) (judged : Option Judged) : Type 0 where
+-- reached, what was done follows from a state of it of which `R` holds
+pub record IsAnswered (R : Stripe → Type 0) (config : Config) (stripe : StripeNo) (q : Question) (c c_new : ClassView) (xs ys : List Answer)
+    (judged : Option Judged) : Type 0 where
   pub answers : ys ≡ xs ++ answer_by stripe judged ∷ []
   pub class : c_new ≡ class_with c (events_if c q judged) c_new.room
-  pub judged_is : IsJudgedIf config stripe c q judged
+  pub reached : IsReachedIf R config stripe c q judged
 
 -- a look may be judged with this stripe: its question may be put to both, and it isn't judged yet
 pub record MaySettle (look : Look) (s : Stripe) : Type 0 where
@@ -48,8 +58,9 @@ pub record MaySettle (look : Look) (s : Stripe) : Type 0 where
   pub once : look.judged ≡ None
 
 -- a look was judged with this stripe: this was done, as class and stripe say, and the look notes it with how many events the
--- stripe had; it follows from a legal state of the stripe
+-- stripe had; it follows from just this stripe, whose history is legal
 pub record IsDone (look : Look) (s : Stripe) (judged : Option Judged) (made : Done) : Type 0 where
   pub done_is : made ≡ done_of look.class.now (cache_now s) (question_of look.ask)
   pub judged_is : judged ≡ Some (judgement made (length s.history))
-  pub follows : IsJudged look.ask.config.now (record { 0 = s.site.stripe }) look.class.now (question_of look.ask) (judgement made (length s.history))
+  pub follows : IsJudgedBy (λ state. state ≡ s) look.ask.config.now (record { 0 = s.site.stripe }) look.class.now (question_of look.ask)
+      (judgement made (length s.history))

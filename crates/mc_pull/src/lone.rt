@@ -22,12 +22,14 @@ pub struct Lone<'a> {
 }
 
 impl<'a> Gate for Lone<'a> {
-    ghost use Rattle.std.specs.Prelude.{◌∷◌, []};
+    ghost use Rattle.std.specs.Prelude.{◌≡◌, ◌∷◌, []};
     ghost use Rattle.mc_pull.specs.{Lone.Serves, Lone.Walked, Refusal.MayFail};
 
     ghost answers = { λ g. g.answers.now.items };
 
     ghost serves = { λ g config who c. Serves g.number.0 g.stripe.now config };
+
+    ghost reaches = { λ g h state. state ≡ g.stripe.now };
 
     ghost references = { λ g. g.stripe.ghost_name ∷ [] };
 

@@ -89,6 +89,7 @@ pub trait Gate {
     ghost use Rattle.std.specs.Prelude.{List, ℕ};
     ghost use Rattle.mc_item.specs.declared.{config.Config.Config, class_event.ClassEvent.ClassEvent, fault.Fault.Fault, item.Who.Who};
     ghost use Rattle.mc_segment.specs.ClassState.{ClassView};
+    ghost use Rattle.mc_stripe.specs.StripeState.{Stripe};
     ghost use Rattle.mc_pull.specs.Walker.{Walker};
     ghost use Rattle.mc_pull.specs.declared.looking.Answer.{Answer};
 
@@ -97,6 +98,9 @@ pub trait Gate {
 
     /// It can judge entries of this class for this call, and the stripes that it reaches were made with this configuration.
     ghost serves: { Self → Config → Who → ClassView → Type 0 };
+
+    /// What is known of the stripe by which a visit judged: from the gate before it to the gate after it.
+    ghost reaches: { Self → Self → Stripe → Type 0 };
 
     /// The mutable references that it holds, by their ghost names. A visit keeps them.
     ghost references: { Self → List ℕ };
@@ -115,8 +119,8 @@ pub trait Gate {
         requires once { look.old.judged ≡ None }
         ensures same_reference { look.new.class.ghost_name ≡ look.old.class.ghost_name }
         ensures had { IfOk result (λ had. is_some look.new.judged ≡ had) }
-        ensures answer { OnOk result (IsAnswered look.old.ask.config.now stripe (question_of look.old.ask) look.old.class.now look.new.class.now (answers
-            self.old) (answers self.new) look.new.judged) }
+        ensures answer { OnOk result (IsAnswered (reaches self.old self.new) look.old.ask.config.now stripe (question_of look.old.ask)
+            look.old.class.now look.new.class.now (answers self.old) (answers self.new) look.new.judged) }
         ensures err { OnErr result ((look.new.class.now ≡ with_room look.old.class.now look.new.class.now.room) × (answers self.new ≡ answers self.old)) }
         ensures fault { IfErr result (faults self.new look.new.class.now) }
         ensures gate { LeavesGate references serves keeps look.old.ask.config.now (walker_of look.old.class.now look.old.ask.who look.old.ask.moment)

@@ -38,8 +38,8 @@ pub fn look_at<G: Gate>(
     gate: &mut G,
 ) -> Result<Option<Judged>, Fault>
     requires look { MayLook G.serves context.config.now gate.old stripe class.old (question_by context number judge.now) }
-    ensures answer { IfOk result (IsAnswered context.entry.config.now stripe (question_by context.entry number judge.now) class.old class.new (G.answers
-        gate.old) (G.answers gate.new)) }
+    ensures answer { IfOk result (IsAnswered (G.reaches gate.old gate.new) context.entry.config.now stripe (question_by context.entry number
+        judge.now) class.old class.new (G.answers gate.old) (G.answers gate.new)) }
     ensures err { OnErr result ((class.new ≡ with_room class.old class.new.room) × (G.answers gate.new ≡ G.answers gate.old)) }
     ensures fault { IfErr result (G.faults gate.new class.new) }
     ensures gate { LeavesGate G.references G.serves G.keeps context.entry.config.now (walker_by class.old context.entry) gate.old class.old gate.new class.new }

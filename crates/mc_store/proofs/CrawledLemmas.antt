@@ -1,10 +1,10 @@
 -- What a pass has seen of a crawl adds up.
 use Rattle.std.proofs.Common.{◌≡◌, ◌+◌, ℕ, List, [], ◌∷◌, ◌++◌, Result, Ok, Err, refl, sym, ap, ◌∙◌, subst, inl, inr, arith, length, append_assoc, zero, suc, Option, slice_get}
-use Rattle.std.specs.Prelude.{◌≤◌, IsSomeAnd, MatchResult, OnErr, OnOk}
+use Rattle.std.specs.Prelude.{◌<◌, ◌≤◌, IsSomeAnd, MatchResult, OnErr, OnOk}
 use mathlib.Core.List.{IsPrefix}
 use Rattle.mc_item.specs.declared.{class_event.ClassEvent.ClassEvent, config.Config.Config, counts.Histogram.Histogram, event.Event.Event}
 use Rattle.mc_item.specs.declared.{event.Event.TheVariants.Call, event.Event.TheVariants.Class, event.Event.TheVariants.Stripe, fault.Fault.Fault}
-use Rattle.mc_item.specs.declared.{item.ClassNo.ClassNo, item.Link.Link, item.Who.Who}
+use Rattle.mc_item.specs.declared.{item.ClassNo.ClassNo, item.Link.Link, item.Who.Who, stripe_event.StripeEvent.StripeEvent}
 use Rattle.mc_item.specs.Counts.{no_counts}
 use Rattle.mc_board.specs.Histories.{Grows, list_at}
 use Rattle.mc_board.specs.declared.{rule.Sight.Sight, rule.Span.Span}
@@ -18,6 +18,9 @@ use Rattle.mc_store.specs.{Accounts.Enters, Accounts.IsOfStretch, Accounts.IsOfS
 use Rattle.mc_store.specs.{Callers.crawling_of, Passes.PassView, Passes.next_who, Sides.class_told}
 use Rattle.mc_store.specs.Crawls.{AreLinksCounted, CountsLink, CountsOne, HasCountedLink, HasReclaims, IsCrawledBy, IsCrawledTill, IsLinkCounted, IsSeenSound, IsSnapshot, ShowsReclaims}
 use Rattle.mc_store.proofs.AccountLemmas.{enters_both, enters_later, enters_more, enters_same}
+use Rattle.mc_crawl.proofs.CrawlLemmas.{crawled_more}
+use Rattle.mc_store.specs.Reached.{IsStateBetween, seen_stripes}
+use Rattle.mc_store.proofs.ReachedLemmas.{seen_grows, state_wider}
 use Rattle.mc_store.proofs.SyncedStepLemmas.{map_append}
 
 -- at least none is there
@@ -123,19 +126,58 @@ snapshot_taken config class before after c links number seen now are count = (
 )
 
 -- a link that was crawled was counted
-pub counts_one : (config : Config) (c c_new : ClassView) (turn : Turn) (link : Link) (xs ys : List Answer) (h h_new : Histogram) (r : Result Unit Fault)
-    → OnOk r (HasCounted (crawl turn.who link.number turn.moment config) c c_new xs ys h h_new) → OnOk r (CountsOne config c c_new turn link h h_new)
-counts_one config c c_new turn link xs ys h h_new (Ok x) made = record {
+pub counts_one : (config : Config) (older newer : ℕ → List StripeEvent) (c c_new : ClassView) (turn : Turn) (link : Link) (xs ys : List Answer) (h h_new : Histogram) (r : Result Unit Fault)
+    → OnOk r (HasCounted (IsStateBetween config.stripes older newer) (crawl turn.who link.number turn.moment config) c c_new xs ys h h_new) → OnOk r (CountsOne config older newer c c_new turn link h h_new)
+counts_one config older newer c c_new turn link xs ys h h_new (Ok x) made = record {
   counted = record { kind = made.kind; answers = xs; answers_new = ys; crawled = made.crawled; counts = made.counts };
   seen = made.seen;
   reclaims = made.reclaims;
 }
-counts_one config c c_new turn link xs ys h h_new (Err f) made = tt
+counts_one config older newer c c_new turn link xs ys h h_new (Err f) made = tt
+
+-- a link that was counted after what was seen was so after less, and by more that is seen
+module _ (config : Config) (less older newer more : ℕ → List StripeEvent) (begins : (n : ℕ) → n < config.stripes → IsPrefix (less n) (older n)) (grows : (n : ℕ) → n < config.stripes → IsPrefix (newer n) (more n)) where
+  counts_wider : (c c_new : ClassView) (who : Who) (moment : ℕ) (link : Link) (h h_new : Histogram) → CountsLink config older newer c c_new who moment link h h_new
+      → CountsLink config less more c c_new who moment link h h_new
+  counts_wider c c_new who moment link h h_new counts = record {
+    kind = counts.kind;
+    answers = counts.answers;
+    answers_new = counts.answers_new;
+    crawled = crawled_more (IsStateBetween config.stripes older newer) (IsStateBetween config.stripes less more) (state_wider config.stripes less older newer more begins grows)
+        (crawl who link.number moment config) c c_new counts.answers counts.answers_new counts.kind counts.crawled;
+    counts = counts.counts;
+  }
+
+  pub one_wider : (c c_new : ClassView) (turn : Turn) (link : Link) (h h_new : Histogram) → CountsOne config older newer c c_new turn link h h_new → CountsOne config less more c c_new turn link h h_new
+  one_wider c c_new turn link h h_new one =
+      record { counted = counts_wider c c_new turn.who turn.moment link h h_new one.counted; seen = one.seen; reclaims = one.reclaims }
+
+  link_wider : (class : ClassNo) (a b : List Event) (who : Who) (moment : ℕ) (link : Link) (stretch : Stretch) (h h_new : Histogram) → IsLinkCounted config class older newer a b who moment link stretch h h_new
+      → IsLinkCounted config class less more a b who moment link stretch h h_new
+  link_wider class a b who moment link stretch h h_new one = record {
+    old = one.old;
+    new = one.new;
+    made_with = one.made_with;
+    number_is = one.number_is;
+    begins = one.begins;
+    now = one.now;
+    stretch_is = one.stretch_is;
+    counted = counts_wider one.old one.new who moment link h h_new one.counted;
+  }
+
+  pub links_wider : (class : ClassNo) (a b : List Event) (who : Who) (moment : ℕ) (links : List Link) (stretches : List Stretch) (h h_new : Histogram)
+      → AreLinksCounted config class older newer a b who moment links stretches h h_new → AreLinksCounted config class less more a b who moment links stretches h h_new
+  links_wider class a b who moment [] [] h h_new counted = counted
+  links_wider class a b who moment [] (stretch ∷ stretches) h h_new counted = absurd counted
+  links_wider class a b who moment (link ∷ links) [] h h_new counted = absurd counted
+  links_wider class a b who moment (link ∷ links) (stretch ∷ stretches) h h_new counted =
+      (counted.0, counted.1, link_wider class a counted.0 who moment link stretch h counted.1 counted.2, links_wider class counted.0 b who moment links stretches counted.1 h_new counted.3)
 
 -- a link was counted under the lock
 pub link_counted : (config : Config) (class : ClassNo) (before after : Sight) (who : Who) (moment : ℕ) (link : Link) (h h_new : Histogram) (c c_new : ClassView) → IsSeenGrowOf config class before after c c_new.history
-    → CountsLink config c c_new who moment link h h_new
-    → IsLinkCounted config class (list_at before.seen (class_lock config class)) (list_at after.seen (class_lock config class)) who moment link (stretch_of c c_new) h h_new
+    → CountsLink config (seen_stripes before) (seen_stripes after) c c_new who moment link h h_new
+    → IsLinkCounted config class (seen_stripes before) (seen_stripes after) (list_at before.seen (class_lock config class)) (list_at after.seen (class_lock config class)) who moment link
+    (stretch_of c c_new) h h_new
 link_counted config class before after who moment link h h_new c c_new grew counts = record {
   old = c;
   new = c_new;
@@ -149,7 +191,7 @@ link_counted config class before after who moment link h h_new c c_new grew coun
 
 -- and the pass has come to see what was reclaimed
 pub link_seen : (config : Config) (class : ClassNo) (before after : Sight) (turn : Turn) (link : Link) (h h_new : Histogram) (c c_new : ClassView) → IsSeenGrowOf config class before after c c_new.history
-    → CountsOne config c c_new turn link h h_new → HasCountedLink config class before after turn link (stretch_of c c_new) h h_new
+    → CountsOne config (seen_stripes before) (seen_stripes after) c c_new turn link h h_new → HasCountedLink config class before after turn link (stretch_of c c_new) h h_new
 link_seen config class before after turn link h h_new c c_new grew made = record {
   seen = made.seen;
   reclaims = shows_one config class before after turn.who turn.moment h.reclaimed h_new.reclaimed c.history c_new.history grew.seen grew.now made.reclaims;
@@ -218,22 +260,37 @@ enters_no_link config class turn {after = after} c c_new made made_new same ente
     enters_more (IsOfStretch config class (stretch_of c c_new)) (IsOfStretches config class []) turn {after = after} made made_new (in_empty config class (stretch_of c c_new) none) enters
 
 -- one link more was counted
-pub links_counted-more : (config : Config) (class : ClassNo) (a b c : List Event) (who : Who) (moment : ℕ) (links : List Link) (stretches : List Stretch) (link : Link) (stretch : Stretch) (h m n : Histogram)
-    → AreLinksCounted config class a b who moment links stretches h m → IsLinkCounted config class b c who moment link stretch m n
-    → AreLinksCounted config class a c who moment (links ++ link ∷ []) (stretches ++ stretch ∷ []) h n
-links_counted-more config class a b c who moment [] [] link stretch h m n none one =
-    (c, n, subst (λ (x : Histogram). IsLinkCounted config class a c who moment link stretch x n) none.1 (subst (λ (l : List Event). IsLinkCounted config class l c who moment link stretch m n) none.0 one), (refl, refl))
-links_counted-more config class a b c who moment [] (s ∷ stretches) link stretch h m n some one = absurd some
-links_counted-more config class a b c who moment (l ∷ links) [] link stretch h m n some one = absurd some
-links_counted-more config class a b c who moment (l ∷ links) (s ∷ stretches) link stretch h m n some one =
-    (some.0, some.1, some.2, links_counted-more config class some.0 b c who moment links stretches link stretch some.1 m n some.3 one)
+pub links_counted-more : (config : Config) (class : ClassNo) (older newer : ℕ → List StripeEvent) (a b c : List Event) (who : Who) (moment : ℕ) (links : List Link) (stretches : List Stretch)
+    (link : Link) (stretch : Stretch) (h m n : Histogram)
+    → AreLinksCounted config class older newer a b who moment links stretches h m → IsLinkCounted config class older newer b c who moment link stretch m n
+    → AreLinksCounted config class older newer a c who moment (links ++ link ∷ []) (stretches ++ stretch ∷ []) h n
+links_counted-more config class older newer a b c who moment [] [] link stretch h m n none one = (
+  c,
+  n,
+  subst (λ (x : Histogram). IsLinkCounted config class older newer a c who moment link stretch x n) none.1
+      (subst (λ (l : List Event). IsLinkCounted config class older newer l c who moment link stretch m n) none.0 one),
+  (refl, refl),
+)
+links_counted-more config class older newer a b c who moment [] (s ∷ stretches) link stretch h m n some one = absurd some
+links_counted-more config class older newer a b c who moment (l ∷ links) [] link stretch h m n some one = absurd some
+links_counted-more config class older newer a b c who moment (l ∷ links) (s ∷ stretches) link stretch h m n some one =
+    (some.0, some.1, some.2, links_counted-more config class older newer some.0 b c who moment links stretches link stretch some.1 m n some.3 one)
+
+-- links that were counted by what was seen are so by what is seen later
+counted_later : (config : Config) (class : ClassNo) (first mid last : Sight) (a b : List Event) (who : Who) (moment : ℕ) (links : List Link) (stretches : List Stretch) (h h_new : Histogram) → Grows mid last
+    → AreLinksCounted config class (seen_stripes first) (seen_stripes mid) a b who moment links stretches h h_new
+    → AreLinksCounted config class (seen_stripes first) (seen_stripes last) a b who moment links stretches h h_new
+counted_later config class first mid last a b who moment links stretches h h_new grows counted =
+    links_wider config (seen_stripes first) (seen_stripes first) (seen_stripes mid) (seen_stripes last) (λ n of. prefix_self _) (seen_grows config.stripes mid last grows) class a b who moment links stretches
+    h h_new counted
 
 -- of a snapshot's links the first ones were counted, and the account gained only what their crawls made
 pub record CountsSoFar (config : Config) (class : ClassNo) (before after : PassView) (who : Who) (moment : ℕ) (links done : List Link) (histogram : Histogram) : Type 0 where
   pub snapshot : IsSnapshot config class before.sight after.sight (length links)
   pub links_are : snapshot.links ≡ links
   pub stretches : List Stretch
-  pub counted : AreLinksCounted config class (class_told snapshot.history) (list_at after.sight.seen (class_lock config class)) who moment done stretches no_counts histogram
+  pub counted : AreLinksCounted config class (seen_stripes before.sight) (seen_stripes after.sight) (class_told snapshot.history) (list_at after.sight.seen (class_lock config class)) who moment done
+      stretches no_counts histogram
   pub entered : Enters (IsOfStretches config class stretches) who.turn after.sight before.made after.made
 
 -- none of them
@@ -250,20 +307,25 @@ so_far_none config class before after who moment links h none taken same = recor
 
 -- one more
 pub so_far_more : (config : Config) (class : ClassNo) (a b c : PassView) (who : Who) (moment : ℕ) (links done more : List Link) (link : Link) (stretch : Stretch) (h h_new : Histogram)
-    → CountsSoFar config class a b who moment links done h → Grows b.sight c.sight
-    → IsLinkCounted config class (list_at b.sight.seen (class_lock config class)) (list_at c.sight.seen (class_lock config class)) who moment link stretch h h_new
+    → CountsSoFar config class a b who moment links done h → Grows a.sight b.sight → Grows b.sight c.sight
+    → IsLinkCounted config class (seen_stripes b.sight) (seen_stripes c.sight) (list_at b.sight.seen (class_lock config class)) (list_at c.sight.seen (class_lock config class)) who moment link stretch
+    h h_new
     → Enters (IsOfStretch config class stretch) who.turn c.sight b.made c.made → done ++ link ∷ [] ≡ more → CountsSoFar config class a c who moment links more h_new
 unfolding snapshot_later
-so_far_more config class a b c who moment links done more link stretch h h_new some grows one entered is = record {
+so_far_more config class a b c who moment links done more link stretch h h_new some first grows one entered is = record {
   snapshot = snapshot_later config class a.sight b.sight c.sight (length links) some.snapshot grows;
   links_are = some.links_are;
   stretches = some.stretches ++ stretch ∷ [];
   counted =
       subst
-      (λ (l : List Link). AreLinksCounted config class (class_told some.snapshot.history) (list_at c.sight.seen (class_lock config class)) who moment l (some.stretches ++ stretch ∷ []) no_counts h_new)
+      (λ (l : List Link). AreLinksCounted config class (seen_stripes a.sight) (seen_stripes c.sight) (class_told some.snapshot.history) (list_at c.sight.seen (class_lock config class)) who moment l
+      (some.stretches ++ stretch ∷ []) no_counts h_new)
       is
-      (links_counted-more config class (class_told some.snapshot.history) (list_at b.sight.seen (class_lock config class)) (list_at c.sight.seen (class_lock config class)) who moment done some.stretches link
-      stretch no_counts h h_new some.counted one);
+      (links_counted-more config class (seen_stripes a.sight) (seen_stripes c.sight) (class_told some.snapshot.history) (list_at b.sight.seen (class_lock config class))
+      (list_at c.sight.seen (class_lock config class)) who moment done some.stretches link stretch no_counts h h_new
+      (counted_later config class a.sight b.sight c.sight (class_told some.snapshot.history) (list_at b.sight.seen (class_lock config class)) who moment done some.stretches no_counts h grows some.counted)
+      (link_wider config (seen_stripes a.sight) (seen_stripes b.sight) (seen_stripes c.sight) (seen_stripes c.sight) (seen_grows config.stripes a.sight b.sight first) (λ n of. prefix_self _) class
+      (list_at b.sight.seen (class_lock config class)) (list_at c.sight.seen (class_lock config class)) who moment link stretch h h_new one));
   entered = enters_link config class who.turn {mid = b.sight} {after = c.sight} some.stretches stretch a.made b.made c.made some.entered grows entered;
 }
 
@@ -286,7 +348,8 @@ so_far_all config class before after moment links done h all is count balanced r
   stretches = all.stretches;
   counted =
       subst
-      (λ (l : List Link). AreLinksCounted config class (class_told all.snapshot.history) (list_at after.sight.seen (class_lock config class)) (next_who before) moment l all.stretches no_counts h)
+      (λ (l : List Link). AreLinksCounted config class (seen_stripes before.sight) (seen_stripes after.sight) (class_told all.snapshot.history) (list_at after.sight.seen (class_lock config class))
+      (next_who before) moment l all.stretches no_counts h)
       (is ∙ sym all.links_are) all.counted;
   account = all.entered;
 }
@@ -307,7 +370,10 @@ so_far_till config class a b c who moment links done h some is begins grows last
       until = list_at b.sight.seen lock;
       now = grows.at lock;
       histogram = h;
-      counted = subst (λ (w : Who). AreLinksCounted config class (class_told some.snapshot.history) (list_at b.sight.seen lock) w moment done some.stretches no_counts h) is some.counted;
+      counted =
+          subst
+          (λ (w : Who). AreLinksCounted config class (seen_stripes a.sight) (seen_stripes c.sight) (class_told some.snapshot.history) (list_at b.sight.seen lock) w moment done some.stretches no_counts h) is
+          (counted_later config class a.sight b.sight c.sight (class_told some.snapshot.history) (list_at b.sight.seen lock) who moment done some.stretches no_counts h grows some.counted);
       account = subst (λ (w : Who). Enters Suits w.turn c.sight a.made c.made) is
           (enters_both Suits who.turn {mid = b.sight} {after = c.sight} a.made b.made c.made some.entered grows
           (enters_more (IsOfStretches config class []) Suits who.turn {after = c.sight} b.made c.made (in_none config class some.stretches) last));

@@ -259,7 +259,7 @@ room_full table config who owner seen c served sight lock at list more r may is 
 
 -- ---- looks
 -- a look whose stripe was not reached was answered so
-pub passed_by : (config : Config) (stripe : StripeNo) (q : Question) (c : ClassView) (xs ys : List Answer) (judged : Option Judged) → judged ≡ None → ys ≡ xs ++ answer_by stripe None ∷ []
-    → IsAnswered config stripe q c c xs ys judged
-passed_by config stripe q c xs ys judged none is =
-    subst (IsAnswered config stripe q c c xs ys) (sym none) record { answers = is; class = ap (λ (h : List ClassEvent). record c { history = h }) (sym (append-nil c.history)); judged_is = tt }
+pub passed_by : {R : Stripe → Type 0} (config : Config) (stripe : StripeNo) (q : Question) (c : ClassView) (xs ys : List Answer) (judged : Option Judged) → judged ≡ None → ys ≡ xs ++ answer_by stripe None ∷ []
+    → IsAnswered R config stripe q c c xs ys judged
+passed_by {R = R} config stripe q c xs ys judged none is =
+    subst (IsAnswered R config stripe q c c xs ys) (sym none) record { answers = is; class = ap (λ (h : List ClassEvent). record c { history = h }) (sym (append-nil c.history)); reached = tt }

@@ -20,6 +20,8 @@ use Rattle.mc_store.specs.{Accounts.IsOfStretch, Accounts.Stretch, Looked.IsKnow
 use Rattle.mc_store.specs.Serving.{IsServed, MayFailSeen}
 use Rattle.mc_store.specs.{Serving.class_side, Sides.StripeSide, Sides.class_told, Sides.stripe_told, Walking.StillWalksFrom, Walking.with_class}
 use Rattle.mc_store.proofs.{VisitedStripeLemmas.judged_listed, LockKeepsLemmas.class_sees, LockKeepsLemmas.grows_trans, LockKeepsLemmas.site_of_number, LockKeepsLemmas.stripe_sees, CallerLemmas.begun_sees}
+use Rattle.mc_store.specs.Reached.{IsStateBetween, seen_stripes}
+use Rattle.mc_store.proofs.{LockKeepsLemmas.heard_stripe, ReachedLemmas.state_told}
 use Rattle.mc_store.proofs.AccountLemmas.{grows_itself, still_both, still_looked, still_walked, whole_grows}
 use Rattle.mc_store.proofs.GateLemmas.{class_within, no_class_lock}
 use Rattle.mc_store.proofs.SyncedStepLemmas.{agree_told, class_stepped, class_told_more, fails_seen, map_length, stripe_side, stripe_stepped}
@@ -71,6 +73,12 @@ module _ (table : TableId) (config : Config) (own : StripeSide) (own_kept : IsLo
         done_is = is;
         known = λ stranger. known c s_lent config q agree lawful legal (judged_listed c q may) own_now.made_with.stripes keyed (sym is ∙ stranger);
       })
+
+  -- the class's token has then seen the stripe as it was judged, after all that it had seen of it before
+  pub state_judged : (last : Sight) → Grows heard.sight last → IsStateBetween config.stripes (seen_stripes seen.sight) (seen_stripes last) s_lent
+  state_judged last later =
+      state_told config.stripes seen.sight heard.sight last s_lent before_kept.of more_of later
+      (ap (λ (t : Sight). seen_stripes t s_lent.site.stripe) told_of_is ∙ heard_stripe seen.sight lent_owner.lock s_lent.site.stripe s_lent.history before_kept.lock_is)
 
   module _ (s_new : Stripe) (c_new : ClassView) (site : KeepsSite s_lent s_new) (grows : classes.GainsEvents c c_new) (legal : IsLegal s_new.site s_new.history)
       (lawful : IsLawfulHistoryByLists c_new.chunks c_new.rule c_new.history)

@@ -3,6 +3,7 @@ pub mod EnteredLemmas
 pub mod CommandLemmas
 pub mod DeadEntryLemmas
 pub mod ShortHistoryLemmas
+pub mod ReachedLemmas
 pub mod NumberOrderLemmas
 pub mod CallerLemmas
 pub mod ClosedLemmas

@@ -210,10 +210,11 @@ searches_failed who moment a b c h k l so more same = record {
 }
 
 -- or whatever a visit of another stripe came to
-pub searches_visited : {T : Type 0} (X : Type 0) (config : Config) (stripe : StripeNo) (xs ys : List Answer) (q : Question) (a b c : Sight) (h : List ClassEvent) (v w : ClassView) (j : Option Judged) (r : Result T Fault)
-    → SearchesOwn q.who q.moment a b h v.history → Grows b c → OnOk r (IsAnswered config stripe q v w xs ys j) → OnErr r ((w ≡ with_room v w.room) × X) → SearchesOwn q.who q.moment a c h w.history
-searches_visited X config stripe xs ys q a b c h v w j (Ok x) so more answered err = searches_judged q a b c h v w j so more answered.class
-searches_visited X config stripe xs ys q a b c h v w j (Err f) so more answered err = searches_failed q.who q.moment a b c h v.history w.history so more (ap (λ (x : ClassView). x.history) err.0)
+pub searches_visited : {T : Type 0} (R : Stripe → Type 0) (X : Type 0) (config : Config) (stripe : StripeNo) (xs ys : List Answer) (q : Question) (a b c : Sight) (h : List ClassEvent)
+    (v w : ClassView) (j : Option Judged) (r : Result T Fault)
+    → SearchesOwn q.who q.moment a b h v.history → Grows b c → OnOk r (IsAnswered R config stripe q v w xs ys j) → OnErr r ((w ≡ with_room v w.room) × X) → SearchesOwn q.who q.moment a c h w.history
+searches_visited R X config stripe xs ys q a b c h v w j (Ok x) so more answered err = searches_judged q a b c h v w j so more answered.class
+searches_visited R X config stripe xs ys q a b c h v w j (Err f) so more answered err = searches_failed q.who q.moment a b c h v.history w.history so more (ap (λ (x : ClassView). x.history) err.0)
 
 -- a command that may need a chunk may make what a search makes
 pub suited_search : (who : Who) (moment : ℕ) (command : Command) → MayNeedChunk command → (es : List ClassEvent) → AreOwnEvents who moment es → NoneSurveys es → AreSuited command es

@@ -206,12 +206,12 @@ module _ (c : ClassView) (q : Question) where
     others = λ key of alive. tt;
   }
 
-  pub looked_away : (config_at config : Config) (w : Walker) (s : Stripe) (stripe : StripeNo) (xs xs_new : List Answer) (c_new : ClassView) (j : Option Judged) (r : Result Bool Fault) → MayJudge c q
-      → HasKeyOf stripe config c q → stripe ≢ record { 0 = s.site.stripe } → OnOk r (IsAnswered config_at stripe q c c_new xs xs_new j)
+  pub looked_away : (R : Stripe → Type 0) (config_at config : Config) (w : Walker) (s : Stripe) (stripe : StripeNo) (xs xs_new : List Answer) (c_new : ClassView) (j : Option Judged) (r : Result Bool Fault) → MayJudge c q
+      → HasKeyOf stripe config c q → stripe ≢ record { 0 = s.site.stripe } → OnOk r (IsAnswered R config_at stripe q c c_new xs xs_new j)
       → OnErr r ((c_new ≡ with_room c c_new.room) × (xs_new ≡ xs)) → HasLooked config.stripes w s xs xs_new c.history c_new.history
-  looked_away config_at config w s stripe xs xs_new c_new j (Ok had) may keyed apart answered err =
+  looked_away R config_at config w s stripe xs xs_new c_new j (Ok had) may keyed apart answered err =
       away config w s stripe xs xs_new c_new.history j may keyed apart answered.answers (ap (λ (v : ClassView). v.history) answered.class)
-  looked_away config_at config w s stripe xs xs_new c_new j (Err fault) may keyed apart answered err = same_after config.stripes w s xs xs_new c_new err.0 err.1
+  looked_away R config_at config w s stripe xs xs_new c_new j (Err fault) may keyed apart answered err = same_after config.stripes w s xs xs_new c_new err.0 err.1
 
   -- ---- a visit of the stripe at hand
   -- what a judgement with the stripe tells, where the stripe had only seen more

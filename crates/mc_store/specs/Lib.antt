@@ -7,6 +7,7 @@ pub mod Locked
 pub mod Accounts
 pub mod Passes
 pub mod Serving
+pub mod Reached
 pub mod Full
 pub mod Performing
 pub mod Looked

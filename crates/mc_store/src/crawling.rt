@@ -8,8 +8,8 @@ ghost use Rattle.mc_crawl.specs.CrawlCount.{IsBalanced, MayCount};
 ghost use Rattle.mc_store.specs.Accounts.{Enters, IsOfStretch, IsOfStretches, StillCalls, Stretch, stretch_of};
 ghost use Rattle.mc_store.specs.Crawls.{CountsOne, HasCountedLink, IsCrawledBy, IsCrawledTill, IsSeenSound, IsSnapshot, MayCrawl};
 ghost use Rattle.mc_store.specs.{Locked.class_lock, Locked.setting_of, Locked.HasBegunAs};
-ghost use Rattle.mc_store.specs.{Sides.class_told, Serving.IsLater, Serving.IsShortFor, Serving.MayFailSeen, Walking.LeavesTokens, Walking.MayTry};
-ghost use Rattle.mc_store.specs.Walking.{StillWalksFrom, class_sight};
+ghost use Rattle.mc_store.specs.{Reached.seen_stripes, Sides.class_told, Serving.IsLater, Serving.IsShortFor, Serving.MayFailSeen};
+ghost use Rattle.mc_store.specs.Walking.{LeavesTokens, MayTry, StillWalksFrom, class_sight};
 ghost use Rattle.mc_store.specs.Callers.{crawling_of, turns_of};
 
 use crate::caller::Caller;
@@ -49,7 +49,8 @@ impl<'a, N: Named> Trying<'a, N> {
         requires gate { MayTry N.board.table N.config context self.old.caller.now self.old.owner.now self.old.seen.now class.old self.old.who
             self.old.moment }
         requires counts { MayCount histogram.old }
-        ensures counted { OnOk result (CountsOne context.entry.config.now class.old class.new context.entry.turn link histogram.old histogram.new) }
+        ensures counted { OnOk result (CountsOne N.config (seen_stripes self.old.seen.now.sight) (seen_stripes self.new.seen.now.sight) class.old class.new
+            context.entry.turn link histogram.old histogram.new) }
         ensures balanced { IsBalanced histogram.old → IsBalanced histogram.new }
         ensures err { OnErr result (class.new.history ≡ class.old.history) }
         ensures fault { IfErr result (MayFailSeen N.config self.new.seen.now.sight class.new) }
@@ -85,8 +86,8 @@ fn crawl_under<N: Named>(
     requires begun { HasBegunAs N.config class.old.sight call.turn.who call.turn.moment (crawling_of class.old.class.number call.turn.moment) }
     requires caller { call.turn.who.caller ≡ caller.old.number }
     requires counts { MayCount histogram.old }
-    ensures counted { MatchResult result (λ done. CountsOne N.config class.old.class class.new.class call.entry.turn link histogram.old histogram.new)
-        (λ fault. class.new.class.history ≡ class.old.class.history) }
+    ensures counted { MatchResult result (λ done. CountsOne N.config (seen_stripes class.old.sight) (seen_stripes class.new.sight) class.old.class
+        class.new.class call.entry.turn link histogram.old histogram.new) (λ fault. class.new.class.history ≡ class.old.class.history) }
     ensures balanced { IsBalanced histogram.old → IsBalanced histogram.new }
     ensures class { classes.GainsEvents class.old.class class.new.class }
     ensures still { StillCalls (IsOfStretch N.config class.old.class.number (stretch_of class.old.class class.new.class)) call.entry.turn.who.turn
@@ -139,7 +140,8 @@ impl<N: Named> Store<N> {
         Ok(links)
     }
 
-    // Crawls one link of a class under its lock, for which it waits. The events that it makes are of the class and of stripes.
+    // Crawls one link of a class under its lock, for which it waits. The class learns what the pass has seen, so the entry's stripe is
+    // found after that. The events that it makes are of the class and of stripes.
     fn crawl_link(
         &self,
         rt: &impl Wait,
@@ -170,6 +172,7 @@ impl<N: Named> Store<N> {
         let mut guard = self.lock_class(rt, class);
         let own = &mut *guard;
         own.side.compare(&self.board, &mut pass.seen);
+        own.learn(&self.board, &mut pass.seen);
         pass.caller.tell_class(&self.board, own);
         let done = crawl_under(call, own, link, histogram, &mut pass.caller);
         own.side.share(&self.board, &mut pass.seen);
@@ -178,8 +181,9 @@ impl<N: Named> Store<N> {
 
     /// Crawls a class, and returns a histogram that counts each of its links as one kind, at most 2^32 links.
     /// It takes a snapshot of the links under the class's lock, then looks at each link under the lock again. It waits for the
-    /// class's lock, and only tries those of stripes. It removes an item that is dead at `moment`, with its entry. `moment` is
-    /// the time in whole seconds. The events that it makes are of this class and of stripes.
+    /// class's lock, and only tries those of stripes. A link is counted by its item as the stripe has it after all that the pass had
+    /// seen of the stripe. An item that is dead at `moment` is removed, with its entry. `moment` is the time in whole seconds. The
+    /// events that it makes are of this class and of stripes.
     /// After a fault what happened so far stays. `HistoryFull` comes only if the history of this class or of a stripe has
     /// fewer than two places left, or the pass has had `max_events` turns. `NoMemory` comes if an allocation fails.
     pub fn crawl(

@@ -87,12 +87,15 @@ impl<'a, N: Named> Trying<'a, N> {
 
 impl<'a, N: Named> Gate for Trying<'a, N> {
     ghost use Rattle.std.specs.Prelude.{◌≡◌, ◌≤◌, ◌∷◌, [], length};
-    ghost use Rattle.mc_store.specs.{Locked.HasBegun, Made.WalksOwn, Serving.IsServed, Serving.MayFailSeen, Walking.StillWalksFrom};
+    ghost use Rattle.mc_store.specs.{Locked.HasBegun, Made.WalksOwn, Reached.IsStateBetween, Reached.seen_stripes, Serving.IsServed, Serving.MayFailSeen};
+    ghost use Rattle.mc_store.specs.Walking.{StillWalksFrom};
 
     ghost answers = { λ g. g.answers.now.items };
 
     ghost serves = { λ g config who c. (config ≡ N.config) × IsServed N.board.table N.config who g.owner.now g.seen.now c
         × HasBegun N.config g.seen.now.sight g.who g.moment × (g.who.caller ≡ g.caller.now.number) };
+
+    ghost reaches = { λ g h state. IsStateBetween N.config.stripes (seen_stripes g.seen.now.sight) (seen_stripes h.seen.now.sight) state };
 
     ghost references = { λ g. g.caller.ghost_name ∷ g.owner.ghost_name ∷ g.seen.ghost_name ∷ [] };
 
@@ -156,12 +159,14 @@ impl<'a, 'b, N: Named> Gate for Holding<'a, 'b, N> {
     ghost use Rattle.std.specs.Prelude.{◌≡◌, ◌≤◌, ◌∷◌, [], length};
     ghost use Rattle.mc_pull.specs.Lone.{StripeGrows};
     ghost use Rattle.mc_store.specs.{Looked.HasLooked, Looked.IsOfCall, Locked.HasBegun, Made.SearchesOwn, Walking.StillWalksFrom};
-    ghost use Rattle.mc_store.specs.Serving.{IsServed, MayFailSeen};
+    ghost use Rattle.mc_store.specs.{Reached.IsStateBetween, Reached.seen_stripes, Serving.IsServed, Serving.MayFailSeen};
 
     ghost answers = { λ g. g.others.answers.now.items };
 
     ghost serves = { λ g config who c. (config ≡ N.config) × IsServed N.board.table N.config who g.others.owner.now g.others.seen.now c
         × HasBegun N.config g.others.seen.now.sight g.others.who g.others.moment × (g.others.who.caller ≡ g.others.caller.now.number) };
+
+    ghost reaches = { λ g h state. IsStateBetween N.config.stripes (seen_stripes g.others.seen.now.sight) (seen_stripes h.others.seen.now.sight) state };
 
     ghost references = { λ g. g.own.ghost_name ∷ g.others.caller.ghost_name ∷ g.others.owner.ghost_name ∷ g.others.seen.ghost_name ∷ [] };
 

@@ -113,6 +113,18 @@ impl<N: Named> LockedClass<N> {
         &self.side
     }
 
+    // The class learns all that a token has seen.
+    pub(crate) fn learn(&mut self, board: &Board, seen: &mut Seen)
+        requires board { (board.now.table ≡ N.board.table) × (seen.old.board ≡ N.board.table) }
+        ensures same { seen.new ≡ seen.old }
+        ensures class { self.new ≡ record self.old { sight = self.new.sight } }
+        ensures grows { Grows self.old.sight self.new.sight }
+        ensures learnt { Grows seen.old.sight self.new.sight }
+    {
+        let side = &mut self.side;
+        side.seen.learn(board, seen);
+    }
+
     // The class learns all that a stripe has seen.
     pub(crate) fn learn_from(&mut self, board: &Board, stripe: &mut LockedStripe<N>)
         requires board { board.now.table ≡ N.board.table }

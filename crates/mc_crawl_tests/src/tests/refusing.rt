@@ -16,6 +16,8 @@ impl Gate for Refusing {
 
     ghost serves = { λ g config who c. Unit {0} };
 
+    ghost reaches = { λ g h state. Unit {0} };
+
     ghost references = { λ g. [] };
 
     ghost faults = { λ g c. MayFailAlone c };

@@ -25,6 +25,8 @@ impl<'a> Gate for ByList<'a> {
 
     ghost serves = { λ g config who c. Serves 0 g.stripe.now config };
 
+    ghost reaches = { λ g h state. Unit {0} };
+
     ghost references = { λ g. g.stripe.ghost_name ∷ [] };
 
     ghost faults = { λ g c. MayFail c g.stripe.now };

@@ -1,7 +1,7 @@
 //! The crawler through the program: kinds by the seconds left, what is reclaimed, and classes summed.
 use super::{Example, all_hold};
 
-pub(super) static EXAMPLES: [Example; 5] = [
+pub(super) static EXAMPLES: [Example; 6] = [
     // At 1000 `g` and `a` have died or die within a minute, and so on; `f` never does.
     Example {
         name: "each item is counted by the minutes that it has left",
@@ -32,6 +32,14 @@ pub(super) static EXAMPLES: [Example; 5] = [
         words: &["mcseg", "--sizes", "96,192", "--stripes", "4"],
         input: "set a 0 0 1|1|set b 0 0 40|1234567890123456789012345678901234567890|set c 0 4000 1|1|%crawl 1|%crawl 2|%crawl all|",
         output: "STORED|STORED|STORED|CRAWL 2 0 0 0 1 1|END|CRAWL 1 0 0 0 1 0|END|CRAWL 3 0 0 0 2 1|END|",
+        status: 0,
+        errors: "",
+    },
+    Example {
+        name: "a new expiry counts at once",
+        words: &["mcseg"],
+        input: "set a 0 100 1|x|%crawl 1|touch a 4000|%crawl 1|gat 60 a|%crawl 1|touch a 0|%crawl 1|",
+        output: "STORED|CRAWL 1 0 0 0 0 0|MINUTE 1 1|END|TOUCHED|CRAWL 1 0 0 0 0 1|END|VALUE a 0 1|x|END|CRAWL 1 0 0 0 0 0|MINUTE 1 1|END|TOUCHED|CRAWL 1 0 0 0 1 0|END|",
         status: 0,
         errors: "",
     },

@@ -1,4 +1,5 @@
 //! Inputs of many lines, or of a long one, through the program.
+use super::beginnings::check_beginnings;
 use super::{Wanted, add_lines, asserts_ran, run_program};
 use std::alloc::Global;
 use std::process::Abort;
@@ -146,17 +147,20 @@ fn bytes_of<R: Abort>(rt: &R, alloc: Global, text: &Text) -> Vec<u8> {
     bytes
 }
 
+fn wanted<'a>(long: &Long, output: &'a [u8]) -> Wanted<'a> {
+    Wanted {
+        name: long.name,
+        status: long.status,
+        output,
+        errors: long.errors.as_bytes(),
+    }
+}
+
 fn check_long<R: Abort + RandomSource + Threads + Wait + Sync>(rt: &R, alloc: Global, long: &Long) {
     let input = bytes_of(rt, alloc, &long.input);
     let output = bytes_of(rt, alloc, &long.output);
     let ran = run_program(rt, alloc, long.words, input.as_slice());
-    let wanted = Wanted {
-        name: long.name,
-        status: long.status,
-        output: output.as_slice(),
-        errors: long.errors.as_bytes(),
-    };
-    asserts_ran(rt, &ran, &wanted, 0);
+    asserts_ran(rt, &ran, &wanted(long, output.as_slice()), 0);
 }
 
 #[test]
@@ -164,4 +168,14 @@ fn long_lines_many_scripts_and_many_items_hold(rt: HostRuntime) {
     for long in LONG.as_slice() {
         check_long(&rt, rt.alloc(), long);
     }
+}
+
+#[test]
+fn the_last_beginnings_of_a_line_that_is_too_long_hold(rt: HostRuntime) {
+    let long = &LONG[0];
+    let input = bytes_of(&rt, rt.alloc(), &long.input);
+    let output = bytes_of(&rt, rt.alloc(), &long.output);
+    let whole = wanted(long, output.as_slice());
+    let bytes = input.len().saturating_sub(20);
+    check_beginnings(&rt, rt.alloc(), long.words, input.as_slice(), &whole, bytes);
 }

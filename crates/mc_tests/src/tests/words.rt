@@ -198,7 +198,7 @@ fn words_that_are_no_options_are_refused(rt: HostRuntime) {
 }
 
 // What a person has to find in the help: each line on standard error, each number, each limit.
-static HELP: [&str; 36] = [
+static HELP: [&str; 38] = [
     "%juggle <class>",
     "%crawl <class>",
     "%chunks <class> <n>",
@@ -231,6 +231,8 @@ static HELP: [&str; 36] = [
     "7 events ",
     "mcseg: input failed\n",
     "mcseg: output failed\n",
+    "mcseg: no words of the command line: <why>\n",
+    "mcseg: no random numbers: <why>\n",
     "1 to 250 bytes",
     "65,536 bytes before its LF",
     "noreply",

@@ -2,6 +2,7 @@ use Rattle.std.proofs.Common.{rules, ◌≡◌, ap, ◌∙◌, subst, sym}
 use Rattle.std.specs.Prelude.{MatchResult}
 use Rattle.mc_item.specs.declared.config.Config.{Config}
 use Rattle.mc_segment.specs.ClassState.{ClassView}
+use Rattle.mc_store.specs.Reached.{seen_stripes}
 use Rattle.mc_store.specs.{Crawls.CountsOne, Callers.crawling_of, Locked.HasBegunAs, Locked.IsLockedClass, Serving.class_side, Sides.ClassSide}
 use Rattle.mc_store.proofs.{CallerLemmas.begun_as_sees, CrawledLemmas.match_on, CrawledLemmas.on_ok_more, GateLemmas.stretch_under, OwnEventLemmas.gains_crawled, OwnEventLemmas.locked_gains}
 use Rattle.mc_store.proofs.OwnCallLemmas.{may_try_whole}
@@ -25,7 +26,7 @@ invariant_of-class g c =
     let made = c.crawl in
     let old : ClassSide = class_side c.side.inside.owner c.side.inside.seen c.side.inside.state in
     let new : ClassSide = class_side made.new.self.owner.now made.new.self.seen.now made.new.class in
-    let One : Type 0 = CountsOne c.store.inside.config c.side.inside.state new.class turn c.args.link c.args.histogram.now made.new.histogram in
+    let One : Type 0 = CountsOne config (seen_stripes old.sight) (seen_stripes new.sight) c.side.inside.state new.class turn c.args.link c.args.histogram.now made.new.histogram in
     let reclaims = on_ok_more made.result _ _ (λ (one : One). one.reclaims) made.ensures.counted in
     let made_so = gains_crawled old.class.number turn.who turn.moment old.class.history new.class.history _ _ made.result reclaims made.ensures.err in
     let call = crawling_of old.class.number turn.moment in
@@ -37,13 +38,11 @@ invariant_of-class g c =
 pub returns-clause-counted : goal.returns-clause-counted
 returns-clause-counted g c =
     let made = c.crawl in
-    let of : c.side.inside.state ≡ c.args.class.now.class = ap (λ (x : ClassSide). x.class) (c.side.view_is ∙ c.class.view_is) in
-    let with : c.store.inside.config ≡ g.N.Named.config = c.store.invariant.1 in
-    let Counts : ClassView → Config → Type 0 = λ v config. CountsOne config v made.new.class c.args.call.turn c.args.link c.args.histogram.now made.new.histogram in
-    let P : ClassView → Config → Type 0 = λ v config. MatchResult made.result (λ done. Counts v config) (λ fault. made.new.class.history ≡ v.history) in
-    subst (λ (v : ClassView). P v g.N.Named.config) of
-    (subst (P c.side.inside.state) with
-    (match_on made.result (Counts c.side.inside.state c.store.inside.config) (made.new.class.history ≡ c.side.inside.state.history) made.ensures.counted made.ensures.err))
+    let old : ClassSide = class_side c.side.inside.owner c.side.inside.seen c.side.inside.state in
+    let Counts : ClassSide → Type 0 = λ x. CountsOne g.N.Named.config (seen_stripes x.sight) (seen_stripes made.new.self.seen.now.sight) x.class made.new.class c.args.call.turn c.args.link
+    c.args.histogram.now made.new.histogram in
+    subst (λ (x : ClassSide). MatchResult made.result (λ done. Counts x) (λ fault. made.new.class.history ≡ x.class.history)) (c.side.view_is ∙ c.class.view_is)
+    (match_on made.result (Counts old) (made.new.class.history ≡ old.class.history) made.ensures.counted made.ensures.err)
 
 pub returns-clause-still : goal.returns-clause-still
 returns-clause-still g c =

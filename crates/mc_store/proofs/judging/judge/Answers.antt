@@ -1,6 +1,7 @@
 use Rattle.std.proofs.Common.{rules, ◌≡◌, ap, length, sym, subst, ◌∙◌}
 use Rattle.std.specs.Prelude.{◌≤◌, IsSomeAnd}
-use Rattle.mc_pull.specs.{Lone.StripeGrows, Question.HasKeyOf, Question.question_of, Walker.Walker, Walker.walker_of}
+use Rattle.mc_item.specs.declared.config.Config.{Config}
+use Rattle.mc_pull.specs.{Lone.StripeGrows, Looks.IsReachedIf, Question.HasKeyOf, Question.question_of, Walker.Walker, Walker.walker_of}
 use Rattle.mc_pull.specs.Growth as classes
 use Rattle.mc_pull.proofs.OneStripeGateLemmas.{settle_walked}
 use Rattle.mc_board.specs.Views.{OwnerView}
@@ -8,7 +9,8 @@ use Rattle.mc_stripe.specs.StripeState.{Stripe}
 use Rattle.mc_store.specs.{Looked.IsKnown, Passes.CallerView, Serving.MayFailSeen, Sides.StripeSide, Locked.HasBegun, Locked.IsLockedStripe, Walking.LeavesJudged, Walking.StillWalksFrom}
 use Rattle.mc_store.specs.declared.locked.LockedStripe.TheInside.{Inside}
 use Rattle.mc_store.specs.declared.owned_stripe.OwnedStripe.TheInside as owned
-use Rattle.mc_store.proofs.JudgedEntryLemmas.{class_judged, fault_judged, known_judged, owner_judged, still_judged, stripe_judged}
+use Rattle.mc_store.specs.Reached.{IsStateBetween, seen_stripes}
+use Rattle.mc_store.proofs.JudgedEntryLemmas.{class_judged, fault_judged, known_judged, owner_judged, state_judged, still_judged, stripe_judged}
 use Rattle.mc_store.proofs.{SyncedStepLemmas.class_told_more, SyncedStepLemmas.handed_on, SyncedStepLemmas.settled_grows, SyncedStepLemmas.settled_told, LockKeepsLemmas.grows_trans}
 use Rattle.mc_store.proofs.SyncedStepLemmas.{stripe_side}
 use Rattle.mc_store.proofs.OwnCallLemmas.{class_settled_by, stripe_walked_by}
@@ -86,6 +88,9 @@ module _ (g : Over) (c : After-tell-4 g) where
         stripe = subst (λ (x : StripeSide). StripeGrows walker c.args.stripe.now.stripe x.stripe) (sym c.tell-4.ensures.same)
             (subst (λ (x : Stripe). StripeGrows walker x c.settle-done.new.stripe) lent_state walked);
         sees = grows_trans c.args.seen.now.sight c.tell-2.new.seen.sight c.tell-4.new.seen.sight c.tell-2.ensures.grows c.tell-4.ensures.grows;
+        state = subst (IsStateBetween g.N.Named.config.stripes (seen_stripes c.args.seen.now.sight) (seen_stripes c.tell-4.new.seen.sight)) lent_state
+            (state_judged _ _ _ c.stripe.invariant _ own.owner _ own_is _ _ _ c.requires.look.served _ _ c.catch_up_class.ensures.told c.tell.ensures.same _ c.tell.ensures.whole c.tell.ensures.grows
+            _ _ c.tell-2.ensures.same c.tell-2.ensures.told c.tell-2.ensures.grows _ lent.owner lent.seen lent_is c.tell-4.new.seen.sight c.tell-4.ensures.grows);
       }
 
 pub catch_up_stripe-requires-clause-behind : goal.catch_up_stripe-requires-clause-behind
@@ -164,4 +169,11 @@ returns-clause-judged g c =
     known_judged _ _ _ c.stripe.invariant _ own.owner _ (own_is g at) _ _ _ c.requires.look.served _ _ c.catch_up_class.ensures.told c.tell.ensures.same _ c.tell.ensures.whole c.tell.ensures.grows
     _ _ c.tell-2.ensures.same c.tell-2.ensures.told c.tell-2.ensures.grows _ lent.owner lent.seen (lent_is g at)
     q c.settle-done.new.self.judged c.in_ok-done.field-0 _ c.requires.look.may keyed c.in_ok-done.ensures.done.done_is c.in_ok-done.ensures.done.judged_is) in
-    record { had = search rules; class = search rules; judged_is = search rules; known = known }
+    let judged = c.settle-done.new.self.judged in
+    let done = c.in_ok-done.ensures.done in
+    let follows : IsReachedIf (λ state. state ≡ lent.state) c.args.look.now.ask.config.now (record { 0 = lent.state.site.stripe }) class q judged =
+    subst (IsReachedIf (λ state. state ≡ lent.state) c.args.look.now.ask.config.now (record { 0 = lent.state.site.stripe }) class q) (sym done.judged_is) done.follows in
+    let reached =
+    subst (λ (s : Stripe). IsReachedIf (λ state. state ≡ s) g.N.Named.config (record { 0 = s.site.stripe }) class q judged) (lent_state g at)
+    (subst (λ (k : Config). IsReachedIf (λ state. state ≡ lent.state) k (record { 0 = lent.state.site.stripe }) class q judged) c.requires.look.of follows) in
+    record { had = search rules; class = search rules; reached = reached; known = known }

@@ -1,10 +1,12 @@
-use Rattle.std.proofs.Common.{rules, ◌≡◌, ◌∷◌, ◌++◌, [], List, ◌∙◌, ap, length, refl, subst, sym}
-use Rattle.mc_item.specs.declared.{config.Config.Config, item.Who.Who}
+use Rattle.std.proofs.Common.{rules, ◌≡◌, ◌∷◌, ◌++◌, [], ℕ, List, ◌∙◌, ap, length, refl, subst, sym}
+use Rattle.mc_item.specs.declared.{config.Config.Config, item.StripeNo.StripeNo, item.Who.Who}
 use Rattle.mc_board.specs.{Histories.Grows, Views.SeenView}
 use Rattle.mc_store.specs.{Looked.IsOfCall, Serving.IsServed, Sides.StripeSide, Walking.StillWalksFrom}
 use Rattle.mc_store.proofs.{CallerLemmas.asked_here, CallerLemmas.begun_sees, GateLemmas.grew_on, GateLemmas.no_shorter, GateLemmas.no_shorter_both, GateLemmas.still_on, GateLemmas.still_unwalked}
 use Rattle.mc_stripe.specs.StripeState.{Stripe}
-use Rattle.mc_pull.specs.{Lone.StripeGrows, Looks.answer_by, Question.HasKeyOf, Question.question_of, Walker.walker_of}
+use Rattle.mc_pull.proofs.ReachedLemmas.{reached_more}
+use Rattle.mc_store.specs.Reached.{IsStateBetween, seen_stripes}
+use Rattle.mc_pull.specs.{Lone.StripeGrows, Looks.IsReachedIf, Looks.answer_by, Question.HasKeyOf, Question.question_of, Walker.walker_of}
 use Rattle.mc_pull.specs.declared.looking.Answer.{Answer}
 use Rattle.mc_segment.specs.ClassState.{ClassView}
 use Rattle.mc_store.proofs.VisitedStripeLemmas.{known_at, looked_away, looked_both, looked_here, same_after}
@@ -29,6 +31,26 @@ judge-requires-clause-look g c =
       once = c.requires.once;
     }
 
+pub returns-clause-answer : goal.returns-clause-answer
+returns-clause-answer g c =
+    let me = c.args.self.now.others in
+    let q = question_of c.args.look.now.ask in
+    let class = c.args.look.now.class.now in
+    let judged = c.judge.new.look.judged in
+    let made = c.in_ok-judge.ensures.judged in
+    let own = c.learn.new.self.stripe in
+    let state =
+    subst (λ (v : SeenView). IsStateBetween g.N.Named.config.stripes (seen_stripes v.sight) (seen_stripes c.judge.new.seen.sight) own) c.learn.ensures.same c.judge.ensures.left.state in
+    let seen = ap (λ (x : StripeSide). x.stripe.site.stripe) c.learn.ensures.stripe in
+    let number : record { 0 = c.learn.new.self.stripe.site.stripe } ≡ c.args.stripe = ap (λ (n : ℕ). record { 0 = n }) seen ∙ sym (c.lends.ensures.own c.if-not-lends.false).0 in
+    record {
+      answers = search rules;
+      class = made.class;
+      reached = reached_more (λ it. it ≡ own) _ c.args.look.now.ask.config.now c.args.stripe class q judged (λ it is. subst (IsStateBetween _ _ _) (sym is) state)
+          (subst (λ (k : Config). IsReachedIf (λ it. it ≡ own) k c.args.stripe class q judged) (sym c.requires.look.served.serves.0)
+          (subst (λ (n : StripeNo). IsReachedIf (λ it. it ≡ own) g.N.Named.config n class q judged) number made.reached));
+    }
+
 pub returns-then-not-lends-clause-gate : goal.returns-then-not-lends-clause-gate
 returns-then-not-lends-clause-gate g c =
     let me = c.args.self.now in
@@ -51,11 +73,11 @@ returns-then-not-lends-clause-gate g c =
             let was = kept.1 of in (
               (was.0.0 ∙ sym same.0, was.0.1 ∙ sym same.1),
               looked_both g.N.Named.config.stripes w _ _ _ _ _ _ _ _ was.1 kept.0
-                  (looked_away look.class.now q look.ask.config.now g.N.Named.config w s c.args.stripe me.others.answers.now.items c.visit.new.self.answers.now.items
+                  (looked_away look.class.now q _ look.ask.config.now g.N.Named.config w s c.args.stripe me.others.answers.now.items c.visit.new.self.answers.now.items
                   c.visit.new.look.class.now c.visit.new.look.judged c.visit.result
                   c.requires.look.judge keyed (c.lends.ensures.other c.if-not-lends.true was.0.0 was.0.1) made.answer made.err),
             ),
-        searches_visited _ look.ask.config.now c.args.stripe _ _ q _ _ _ _ look.class.now c.visit.new.look.class.now c.visit.new.look.judged c.visit.result kept.2 same.2.sees made.answer made.err,
+        searches_visited _ _ look.ask.config.now c.args.stripe _ _ q _ _ _ _ look.class.now c.visit.new.look.class.now c.visit.new.look.judged c.visit.result kept.2 same.2.sees made.answer made.err,
         no_shorter_both (length first.others.owner.now.history) start (length c.visit.new.self.owner.now.history) kept.3 same.3,
         still_on g.N.Named.config look.class.now.number (length first.others.owner.now.history) start look.ask.who.turn first.others.seen.now.sight me.others.seen.now.sight
             c.visit.new.self.seen.now.sight begun look.class.now.history c.visit.new.look.class.now.history first.others.caller.now me.others.caller.now c.visit.new.self.caller.now

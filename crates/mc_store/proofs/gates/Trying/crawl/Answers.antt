@@ -1,6 +1,9 @@
 use Rattle.std.proofs.Common.{drop, length, refl, rules, sym, ap, ◌∙◌, subst}
 use Rattle.mc_store.proofs.{CrawledLemmas.counts_one, GateLemmas.no_shorter, GateLemmas.served_asked, GateLemmas.still_caught_up, GateLemmas.still_unwalked, OwnEventLemmas.walks_none}
-use Rattle.mc_item.specs.declared.item.Who.{Who}
+use Rattle.std.specs.Prelude.{OnOk}
+use Rattle.mc_item.specs.declared.{config.Config.Config, item.Who.Who}
+use Rattle.mc_crawl.specs.Crawl.{HasCounted, crawl}
+use Rattle.mc_store.specs.Reached.{IsStateBetween, seen_stripes}
 use Rattle.mc_board.specs.{Accounts.AreBy, Views.OwnerView}
 use Rattle.mc_segment.specs.ClassState.{ClassView}
 use Rattle.mc_store.specs.{Sides.class_told, Walking.with_class}
@@ -60,5 +63,12 @@ returns-clause-references g c =
 
 pub returns-clause-counted : goal.returns-clause-counted
 returns-clause-counted g c =
-    counts_one c.args.context.config.now c.args.class.now c.crawl_one-done.new.class c.args.context.turn c.args.link _ _ c.args.histogram.now c.crawl_one-done.new.histogram c.crawl_one-done.result
-    c.crawl_one-done.ensures.crawled
+    let turn = c.args.context.turn in
+    let first = c.args.self.now.seen.now.sight in
+    let last = c.crawl_one-done.new.gate.seen.now.sight in
+    let crawled = subst
+    (λ (k : Config). OnOk c.crawl_one-done.result (HasCounted (IsStateBetween g.N.Named.config.stripes (seen_stripes first) (seen_stripes last)) (crawl turn.who c.args.link.number turn.moment k) c.args.class.now
+    c.crawl_one-done.new.class c.args.self.now.answers.now.items c.crawl_one-done.new.gate.answers.now.items c.args.histogram.now c.crawl_one-done.new.histogram))
+    c.requires.gate.names c.crawl_one-done.ensures.crawled in
+    counts_one g.N.Named.config (seen_stripes first) (seen_stripes last) c.args.class.now c.crawl_one-done.new.class turn c.args.link _ _ c.args.histogram.now c.crawl_one-done.new.histogram
+    c.crawl_one-done.result crawled

@@ -1,6 +1,8 @@
 use Rattle.std.proofs.Common.{rules, ◌≡◌, ◌∙◌, ◌++◌, ◌∷◌, [], ℕ, List, None, ap, length, subst, sym}
 use Rattle.mc_item.specs.declared.{config.Config.Config, item.StripeNo.StripeNo, item.Who.Who}
-use Rattle.mc_pull.specs.{Looks.IsJudgedIf, Looks.answer_by, Question.question_of}
+use Rattle.mc_pull.specs.{Looks.IsReachedIf, Looks.answer_by, Question.question_of}
+use Rattle.mc_pull.proofs.ReachedLemmas.{reached_more}
+use Rattle.mc_store.specs.Reached.{IsStateBetween, seen_stripes}
 use Rattle.mc_pull.specs.declared.looking.Answer.{Answer}
 use Rattle.mc_board.specs.{Histories.Grows, Views.SeenView}
 use Rattle.mc_segment.specs.ClassState.{ClassView}
@@ -33,12 +35,16 @@ returns-clause-answer g c =
     let judged = c.judge.new.look.judged in
     let made = c.in_ok-judge.ensures.judged in
     let seen = ap (λ (x : StripeSide). x.stripe.site.stripe) c.learn.ensures.stripe in
+    let own = c.learn.new.self.stripe in
+    let state =
+    subst (λ (v : SeenView). IsStateBetween g.N.Named.config.stripes (seen_stripes v.sight) (seen_stripes c.judge.new.seen.sight) own) c.learn.ensures.same c.judge.ensures.left.state in
     let number : record { 0 = c.learn.new.self.stripe.site.stripe } ≡ c.args.stripe = ap (λ (n : ℕ). record { 0 = n }) seen ∙ sym (c.is_numbered.ensures c.if-not-is_numbered.false) in
     record {
       answers = search rules;
       class = made.class;
-      judged_is = subst (λ (k : Config). IsJudgedIf k c.args.stripe class q judged) (sym c.requires.look.served.serves.0)
-          (subst (λ (n : StripeNo). IsJudgedIf g.N.Named.config n class q judged) number made.judged_is);
+      reached = reached_more (λ it. it ≡ own) _ c.args.look.now.ask.config.now c.args.stripe class q judged (λ it is. subst (IsStateBetween _ _ _) (sym is) state)
+          (subst (λ (k : Config). IsReachedIf (λ it. it ≡ own) k c.args.stripe class q judged) (sym c.requires.look.served.serves.0)
+          (subst (λ (n : StripeNo). IsReachedIf (λ it. it ≡ own) g.N.Named.config n class q judged) number made.reached));
     }
 
 pub returns-in_err-judge-clause-gate : goal.returns-in_err-judge-clause-gate

@@ -89,7 +89,7 @@ loop-i-preserved g c =
           i.2 one.1.reclaims,
       so_far_more config c.args.class pass c.loop-i.pass new c.in_ok-who.who c.args.moment c.in_ok-links.links.items
           (take c.loop-i.i c.in_ok-links.links.items) (take (c.loop-i.i + 1) c.in_ok-links.links.items)
-          c.index.result.now one.0 c.loop-i.histogram c.crawl_link.new.histogram i.3 c.crawl_link.ensures.grows.seen one.1.counted one.2
+          c.index.result.now one.0 c.loop-i.histogram c.crawl_link.new.histogram i.3 i.4.seen c.crawl_link.ensures.grows.seen one.1.counted one.2
           (ap (λ (l : Link). take c.loop-i.i c.in_ok-links.links.items ++ l ∷ []) c.index.ensures
           ∙ sym (take_more c.in_ok-links.links.items c.loop-i.i c.index.result.now (omega (arith, c.loop-i-test.true, c.len-i-end.ensures)))),
       later_trans pass.sight c.loop-i.pass.sight new.sight i.4 c.crawl_link.ensures.grows,

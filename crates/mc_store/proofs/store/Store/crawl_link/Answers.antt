@@ -5,8 +5,10 @@ use Rattle.mc_segment.specs.ClassState.{ClassView}
 use Rattle.mc_pull.specs.Growth as classes
 use Rattle.mc_store.specs.{Accounts.IsOfStretch, Accounts.StillCalls, Accounts.stretch_of, Callers.crawling_of, Callers.placed_in, Finals.IsBehindAt}
 use Rattle.mc_store.specs.{Locked.IsHeldClass, Passes.CallerView, Passes.PassView, Sides.ClassSide, Sides.class_told, Walking.class_sight}
-use Rattle.mc_store.proofs.{AccountLemmas.still_pass, CrawledLemmas.enters_no_link, CrawledLemmas.link_entered, CrawledLemmas.link_seen, CrawledLemmas.match_ends}
+use Rattle.mc_store.proofs.{AccountLemmas.still_pass, CrawledLemmas.enters_no_link, CrawledLemmas.link_entered, CrawledLemmas.link_seen, CrawledLemmas.match_ends, CrawledLemmas.one_wider}
 use Rattle.mc_store.proofs.{GrownClassLemmas.class_grew, GrownClassLemmas.class_shared, GrownClassLemmas.fails_full, GrownClassLemmas.seen_sound, PlacedLemmas.placed_same, PlacedLemmas.placed_sees}
+use Rattle.mc_store.specs.Reached.{seen_stripes}
+use Rattle.mc_store.proofs.{LockKeepsLemmas.grows_trans, ReachedLemmas.seen_grows}
 use Rattle.mc_store.proofs.store.Store.crawl_link.Given.{Over}
 use Rattle.mc_store.proofs.store.Store.crawl_link.Goals as goal
 use Rattle.mc_store.proofs.store.Store.crawl_link.Goals.{After-share}
@@ -30,7 +32,7 @@ module _ (g : Over) (c : After-share g) where
 
   -- no step before the crawl changed the class or the caller
   class_is : c.tell_class.new.class.class ≡ old_side.class
-  class_is = ap (λ (x : ClassSide). x.class) c.tell_class.ensures.class
+  class_is = ap (λ (x : ClassSide). x.class) c.tell_class.ensures.class ∙ ap (λ (x : ClassSide). x.class) c.learn.ensures.class
 
   grew : classes.GainsEvents old_side.class new_side.class
   grew = rw class_is at c.crawl_under-done.ensures.class
@@ -49,6 +51,12 @@ module _ (g : Over) (c : After-share g) where
   all : Grows new_side.sight c.share.new.seen.sight
   all = rw c.own-2.view_is at c.share.ensures.all
 
+  -- and the class had learned from it before the crawl
+  learnt : Grows c.args.pass.now.sight c.tell_class.new.class.sight
+  learnt =
+      let first = rw (c.compare.ensures.same.1, ap (λ (p : PassView). p.sight) c.pass.view_is) at c.learn.ensures.learnt in
+      grows_trans c.args.pass.now.sight c.learn.new.self.sight c.tell_class.new.class.sight first c.tell_class.ensures.grows
+
 pub returns-clause-full : goal.returns-clause-full
 returns-clause-full g c = λ is.
     let at = (goal.at.returns-clause-full g c).After-share in
@@ -59,7 +67,7 @@ pub crawl_under-done-requires-clause-begun : goal.crawl_under-done-requires-clau
 crawl_under-done-requires-clause-begun g c =
     let turn = c.args.crawling.turn in
     let number : c.tell_class.new.class.class.number ≡ c.args.crawling.class = ap (λ (x : ClassSide). x.class.number) c.tell_class.ensures.class
-    ∙ (ap (λ (x : ClassSide). x.class.number) (c.compare.ensures.same.0 ∙ (c.own.view_is ∙ c.deref_mut-own.ensures.value)) ∙ c.lock_class-guard.ensures) in
+    ∙ (ap (λ (x : ClassSide). x.class.number) c.learn.ensures.class ∙ ap (λ (x : ClassSide). x.class.number) (c.compare.ensures.same.0 ∙ (c.own.view_is ∙ c.deref_mut-own.ensures.value)) ∙ c.lock_class-guard.ensures) in
     let called = rw (← c.pass.view_is) at c.requires.may.called in
     rw number (c.tell_class.ensures.begun turn.who turn.moment (crawling_of c.args.crawling.class turn.moment) called)
 
@@ -89,7 +97,11 @@ returns-clause-counted g c =
     let entered = link_entered config class turn.who.turn {mid = class_sight config (new_side g at)} {after = after} c.tell_class.new.class.class old new
     c.pass.inside.caller.made c.args.pass.now.made c.crawl_under-done.new.caller.made (class_is g at) (number g at) (ap (λ (p : PassView). p.made) c.pass.view_is) shared (still g at).enters in
     match_ends c.crawl_under-done.result _ _ _ _
-    (λ counts. (stretch_of old new, link_seen config class c.args.pass.now.sight after turn c.args.link c.args.histogram.now c.crawl_under-done.new.histogram old new seen_grow counts, entered))
+    (λ counts.
+    let wider = one_wider config (seen_stripes c.args.pass.now.sight) (seen_stripes c.tell_class.new.class.sight) (seen_stripes (new_side g at).sight) (seen_stripes after)
+    (seen_grows config.stripes c.args.pass.now.sight c.tell_class.new.class.sight (learnt g at)) (seen_grows config.stripes (new_side g at).sight after (all g at)) old new turn c.args.link
+    c.args.histogram.now c.crawl_under-done.new.histogram counts in
+    (stretch_of old new, link_seen config class c.args.pass.now.sight after turn c.args.link c.args.histogram.now c.crawl_under-done.new.histogram old new seen_grow wider, entered))
     (λ same. enters_no_link config class turn.who.turn {after = after} old new c.args.pass.now.made c.crawl_under-done.new.caller.made same entered)
     (rw (class_is g at) at c.crawl_under-done.ensures.counted)
 
@@ -101,7 +113,7 @@ returns-clause-same g c =
 pub invariant_of-pass : goal.invariant_of-pass
 invariant_of-pass g c =
     let i = c.pass.invariant in
-    let seen = c.compare.ensures.same.1 in
+    let seen = c.learn.ensures.same ∙ c.compare.ensures.same.1 in
     let after = c.share.new.seen.sight in
     let same = still g (goal.at.invariant_of-pass g c).After-share in
     let grows = rw seen at c.share.ensures.grows.seen in (
