@@ -1,4 +1,4 @@
-//! Tests of judgements, walks, rounds and juggling: small classes whose outcomes were worked out by hand.
+//! Tests of judgements, walks, rounds, juggling and crawls: small classes whose outcomes were worked out by hand.
 #![tactic(auto)]
 
 #[cfg(test)]

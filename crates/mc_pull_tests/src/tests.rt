@@ -1,15 +1,16 @@
-//! Tests as rows (`rows`), with what they do (`judging`, `hitting`, `by_list`) and see (`seeing`); tries of commands
+//! Tests as rows (`rows`), with what they do (`judging`, `hitting`, `by_list`, `crawling`) and see (`seeing`); tries of commands
 //! (`trying`) as rows (`asking`); and a drawn test.
 mod advances;
 mod asking;
 mod bounds;
 mod breaking;
 mod by_list;
+mod crawling;
+mod crawls;
 mod hits;
 mod hitting;
 mod judgements;
 mod judging;
-mod plain_lists;
 mod plain_table;
 mod random_classes;
 mod rows;

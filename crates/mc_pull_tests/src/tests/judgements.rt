@@ -59,7 +59,7 @@ fn a_stranger_changes_nothing(rt: HostRuntime) -> Result<(), Fail> {
 static DEAD_OR_ALIVE: [Row; 4] = [
     (Judge(IsDead(1000)), "Alive(At(1001))"),
     (Judge(IsDead(1001)), "Reclaimed"),
-    (See(LastOfClass), "reclaims 0 at 6"),
+    (See(LastOfClass), "reclaims 0 dead at 1001, at 6"),
     (Judge(IsDead(1001)), "Alive(Never)"),
 ];
 

@@ -1,10 +1,10 @@
-//! Small classes by chance, and beside each what the plain program of the table has.
+//! Small classes by chance, and beside each a plain class, which takes its events one after another, and what is known of its items.
 ghost use Rattle.std.specs.Prelude.{◌≤◌};
 
-use super::plain_lists::{Lists, Piece, Shares};
+use super::plain_table::{Known, Shares};
 use mc_item::{Command, Config, Seg, Verb};
 use mc_segment::EntryKey;
-use mc_testing::{Dice, WHO, World, ask, key, one_class, opened, storage};
+use mc_testing::{Dice, PlainClass, WHO, World, ask, key, one_class, opened, storage};
 use std::alloc::Global;
 use std::random::RandomSource;
 use std::test::Fail;
@@ -55,11 +55,14 @@ static SHARES: [Shares; 6] = [
     },
 ];
 
-/// A class, its stripe, and the plain program beside them.
+/// A class and its stripe, the plain class, how many events it has taken, and what is known of the items by the numbers of their
+/// entries.
 #[derive(Drop)]
 pub struct Game {
     pub world: World,
-    pub lists: Lists,
+    pub plain: PlainClass,
+    pub taken: usize,
+    pub items: Vec<Known>,
     pub shares: Shares,
     pub moment: u64,
 }
@@ -82,9 +85,12 @@ fn drawn_config(alloc: Global, dice: &mut Dice) -> Result<(Config, Shares), Fail
 pub(super) fn begun<R: RandomSource>(rt: &R, alloc: Global, dice: &mut Dice) -> Result<Game, Fail> {
     let (config, shares) = drawn_config(alloc, dice)?;
     let world = opened(rt, alloc, config)?;
+    let plain = PlainClass::new(alloc, world.class.chunks());
     Ok(Game {
         world,
-        lists: Lists::new(alloc),
+        plain,
+        taken: 0,
+        items: Vec::new(alloc),
         shares,
         moment: 1000,
     })
@@ -115,22 +121,15 @@ fn seg_of(temp: bool, dies: Option<u64>, moment: u64) -> Seg {
 }
 
 // Stores an item whose value is a letter once or 31 times, mostly once, so that bytes are often just at a limit, and links
-// its entry. It tells the bytes.
-fn store(
-    world: &mut World,
-    letter: u8,
-    long: bool,
-    exptime: i64,
-    moment: u64,
-) -> Result<u64, Fail> {
+// its entry.
+fn store(world: &mut World, letter: u8, long: bool, exptime: i64, moment: u64) -> Result<(), Fail> {
     let alloc = world.alloc;
     let text = [letter; 31];
     let len = if long { 31 } else { 1 };
     let command = storage(alloc, Verb::Set, letter, 0, exptime, &text[..len])?;
     ask(world, command, moment)?;
     let cost = if long { 96 } else { 66 };
-    link(world, letter, cost, moment)?;
-    Ok(cost)
+    link(world, letter, cost, moment)
 }
 
 // Links the entry of an item.
@@ -152,43 +151,42 @@ fn link(world: &mut World, letter: u8, cost: u64, moment: u64) -> Result<(), Fai
     Ok(())
 }
 
-/// A new item and its entry.
+/// A new item and its entry, which goes to the list that is wanted.
 pub(super) fn link_one(game: &mut Game, dice: &mut Dice) -> Result<(), Fail> {
     let number = game.world.class.next_number();
     let long = dice.below(4) == 3;
     let exptime = EXPTIMES[dice.below(8) as usize];
     let moment = game.moment;
-    let cost = store(&mut game.world, letter_of(number), long, exptime, moment)?;
+    store(&mut game.world, letter_of(number), long, exptime, moment)?;
     let dies = dies_of(exptime, moment);
-    let piece = Piece {
-        cost,
-        time: moment,
+    game.items.push(Known {
         dies,
         hits: 0,
         held: true,
-    };
+    })?;
     let seg = seg_of(game.world.config.temp, dies, moment);
-    game.lists.add(game.world.alloc, number, piece, seg)?;
+    if game.world.class.segment_of(number) != Some(seg) {
+        return Err(Fail::from("the entry is in another list"));
+    }
     Ok(())
 }
 
 /// A hit of some item, or seldom its removal, which leaves its entry alone. Those that are dead are spared.
 pub(super) fn ask_one(game: &mut Game, dice: &mut Dice) -> Result<(), Fail> {
-    let known = game.lists.pieces.len() as u64;
-    if known == 0 {
-        return Ok(());
-    }
-    let number = dice.below(known);
+    let number = dice.below(1 + game.items.len() as u64);
     let gone = dice.below(16) == 0;
-    if !game.lists.is_alive(number, game.moment) {
+    let Some(known) = game.items.get_mut(number as usize) else {
+        return Ok(());
+    };
+    if !known.held || known.is_dead(game.moment) {
         return Ok(());
     }
     let key = key(game.world.alloc, letter_of(number))?;
     if gone {
-        game.lists.set_held(number, false);
+        known.held = false;
         ask(&mut game.world, Command::Delete(key), game.moment)
     } else {
-        game.lists.hit(number);
+        known.hits = u64::min(known.hits.saturating_add(1), 2);
         ask(&mut game.world, Command::Get(key), game.moment)
     }
 }

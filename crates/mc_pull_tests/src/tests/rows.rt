@@ -1,5 +1,6 @@
 //! Tests as rows: what is done or looked at, and what it tells.
 use super::by_list::{Walked, tell_walked};
+use super::crawling::{Crawled, tell_crawled};
 use super::hitting::{Taken, tell_taken};
 use super::judging::{Judged, tell_judged};
 use super::seeing::{Seen, tell_seen};
@@ -17,12 +18,16 @@ pub enum Ask {
     Store(u8, i64, u64),
     /// The class's limit of chunks is set.
     Limit(u64),
+    /// The entry of this number goes, and its item stays.
+    Unlink(u64),
     /// A walk or a round.
     Walk(Walked),
     /// A judgement.
     Judge(Judged),
     /// A hit that is taken to the class.
     Hit(Taken),
+    /// A crawl.
+    Crawl(Crawled),
     /// What is there.
     See(Seen),
 }
@@ -78,14 +83,25 @@ fn text_of_limit(world: &mut World, chunks: u64) -> Result<String, Fail> {
     Ok(format!(in world.alloc; "limited")?)
 }
 
+fn text_of_unlink(world: &mut World, number: u64) -> Result<String, Fail> {
+    let class = &mut world.class;
+    if class.entry(number).is_none() {
+        return Err(Fail::from("there is no such entry"));
+    }
+    class.unlink(WHO, number)?;
+    Ok(format!(in world.alloc; "unlinked")?)
+}
+
 // What a row does, and what it tells.
 fn tell(world: &mut World, ask: Ask) -> Result<String, Fail> {
     match ask {
         Ask::Store(letter, exptime, moment) => text_of_store(world, letter, exptime, moment),
         Ask::Limit(chunks) => text_of_limit(world, chunks),
+        Ask::Unlink(number) => text_of_unlink(world, number),
         Ask::Walk(walked) => tell_walked(world, walked),
         Ask::Judge(judged) => tell_judged(world, judged),
         Ask::Hit(taken) => tell_taken(world, taken),
+        Ask::Crawl(crawled) => tell_crawled(world, crawled),
         Ask::See(seen) => tell_seen(world.alloc, &world.class, &world.stripe, seen),
     }
 }

@@ -1,4 +1,5 @@
 //! What a class and a stripe tell of themselves.
+use mc_crawl::snapshot;
 use mc_history::{History, Shows};
 use mc_item::{Cause, ClassEvent, Lost, Seg, StripeEvent};
 use mc_segment::ClassState;
@@ -14,6 +15,8 @@ pub enum Seen {
     Lengths,
     /// The numbers of a list's entries, from its tail.
     List(Seg),
+    /// The links of a snapshot: the class and the number of each.
+    Links,
     /// When the entry of this number was last used.
     Time(u64),
     /// Whether the key of one letter has an item.
@@ -55,7 +58,10 @@ fn text_of_event(alloc: Global, event: &ClassEvent) -> Result<String, Fail> {
     match event {
         ClassEvent::Linked(e) => Ok(format!(in alloc; "links {}", e.number)?),
         ClassEvent::Unlinked(e) => Ok(format!(in alloc; "unlinks {}", e.number)?),
-        ClassEvent::Reclaimed(e) => Ok(format!(in alloc; "reclaims {} at {}", e.number, e.at)?),
+        ClassEvent::Reclaimed(e) => Ok(format!(in alloc;
+            "reclaims {} dead at {}, at {}",
+            e.number, e.moment, e.at
+        )?),
         ClassEvent::Evicted(e) => {
             let passed = e.passed.as_slice();
             Ok(format!(in alloc; "evicts {} past {passed:?} at {}", e.number, e.at)?)
@@ -151,6 +157,14 @@ fn text_of_list(alloc: Global, class: &ClassState, seg: Seg) -> Result<String, F
     Ok(format!(in alloc; "{:?}", numbers.as_slice())?)
 }
 
+fn text_of_links(alloc: Global, class: &ClassState) -> Result<String, Fail> {
+    let mut links = Vec::new(alloc);
+    for link in snapshot(alloc, class)? {
+        links.push((link.class.0, link.number))?;
+    }
+    Ok(format!(in alloc; "{:?}", links.as_slice())?)
+}
+
 fn text_of_time(alloc: Global, class: &ClassState, number: u64) -> Result<String, Fail> {
     match class.entry(number) {
         Some(entry) => Ok(format!(in alloc; "{}", entry.time)?),
@@ -178,6 +192,7 @@ pub(super) fn tell_seen(
     match seen {
         Seen::Lengths => text_of_lengths(alloc, class, stripe),
         Seen::List(seg) => text_of_list(alloc, class, seg),
+        Seen::Links => text_of_links(alloc, class),
         Seen::Time(number) => text_of_time(alloc, class, number),
         Seen::Item(letter) => text_of_item(alloc, stripe, letter),
         Seen::LastOfClass => text_of_if(alloc, last_event(class)),

@@ -1,20 +1,19 @@
-//! Tails of small classes are judged by `settle` and by the plain program of the table, and whatever they leave is
-//! compared.
+//! Tails of small classes are judged by `settle` and by the plain program of the table. Whatever they leave is compared with a
+//! plain class.
 use super::SEED;
 use super::judging::judge;
-use super::plain_lists::{Lists, Piece, Sums};
 use super::plain_table::Row::{
     AtAge, AtLimit, ColdActive, ColdKept, ColdTaken, Dead, HotActive, HotForced, Kept, Old, Over,
     Stranger, TempAlive, WarmActive,
 };
-use super::plain_table::{Row, Way, done_of};
+use super::plain_table::{Known, Row, Way, done_of, due_of, row_of};
 use super::random_classes::{Game, ask_one, begun, letter_of, link_one};
 use super::seeing::{events, last_event};
 use mc_item::Seg::{Cold, Hot, Temp, Warm};
 use mc_item::{ClassEvent, Seg, Why};
-use mc_pull::Mode;
+use mc_pull::{Done, Mode};
 use mc_segment::Survey;
-use mc_testing::{Dice, WHO, World, key};
+use mc_testing::{Checked, Dice, WHO, World, key};
 use std::alloc::Global;
 use std::process::Abort;
 use std::random::RandomSource;
@@ -63,47 +62,6 @@ static TABLE: [Met; 27] = [
     (Cold, Way::Evict, Stranger),
 ];
 
-// The numbers and times of a list of the class, from its tail.
-fn times_there(world: &World, seg: Seg) -> Result<Vec<(u64, u64)>, Fail> {
-    let mut times = Vec::new(world.alloc);
-    for place in 0..world.class.len(seg) {
-        if let Some(entry) = world.class.from_tail(seg, place) {
-            times.push((entry.number, entry.time))?;
-        }
-    }
-    Ok(times)
-}
-
-// The same of a list of the plain program.
-fn times_wanted(alloc: Global, lists: &Lists, seg: Seg) -> Result<Vec<(u64, u64)>, Fail> {
-    let mut times = Vec::new(alloc);
-    for (number, of) in lists.order.iter().rev() {
-        if *of == seg {
-            let time = lists.piece(*number).map(|piece| piece.time);
-            times.push((*number, time.unwrap_or(0)))?;
-        }
-    }
-    Ok(times)
-}
-
-// Asserts that a list is that of the plain program.
-fn check_list<R: Abort>(
-    rt: &R,
-    world: &World,
-    lists: &Lists,
-    seg: Seg,
-    met: Met,
-) -> Result<(), Fail> {
-    let there = times_there(world, seg)?;
-    let wanted = times_wanted(world.alloc, lists, seg)?;
-    assert_eq!(rt;
-        there.as_slice(),
-        wanted.as_slice(),
-        "{seg:?} after {met:?}"
-    );
-    Ok(())
-}
-
 // Whether an item is in the stripe, and whether it is active.
 fn marks_there(world: &World, number: u64) -> Result<(bool, bool), Fail> {
     let key = key(world.alloc, letter_of(number))?;
@@ -113,27 +71,39 @@ fn marks_there(world: &World, number: u64) -> Result<(bool, bool), Fail> {
     }
 }
 
-// Asserts that an item is that of the plain program.
+// Asserts that an item is as it is known.
 fn check_item<R: Abort>(
     rt: &R,
     world: &World,
-    piece: Piece,
+    known: Known,
     number: u64,
     met: Met,
 ) -> Result<(), Fail> {
     let marks = marks_there(world, number)?;
-    let wanted = (piece.held, piece.held && piece.hits >= 2);
+    let wanted = (known.held, known.held && known.hits >= 2);
     assert_eq!(rt; marks, wanted, "{number} after {met:?}");
     Ok(())
 }
 
-// Asserts that the lists and the items are those of the plain program.
-fn check_same<R: Abort>(rt: &R, world: &World, lists: &Lists, met: Met) -> Result<(), Fail> {
-    for seg in SEGS {
-        check_list(rt, world, lists, seg, met)?;
+// The plain class takes the events that are new to it, and is compared with the class.
+fn catch_up(game: &mut Game) -> Checked {
+    let world = &game.world;
+    let history = world.class.history();
+    for place in game.taken..history.len() {
+        if let Some(event) = history.get(place) {
+            game.plain.next(event, history)?;
+        }
     }
-    for (number, piece) in lists.pieces.iter().enumerate() {
-        check_item(rt, world, *piece, number as u64, met)?;
+    game.taken = history.len();
+    game.plain.compare(&world.class)
+}
+
+// Asserts that each event is lawful, that lists and figures are those of the plain class, and that the items are as they are
+// known.
+fn check_same<R: Abort>(rt: &R, game: &mut Game, met: Met) -> Result<(), Fail> {
+    assert_eq!(rt; catch_up(game), Ok(()), "after {met:?}");
+    for (number, known) in game.items.iter().enumerate() {
+        check_item(rt, &game.world, *known, number as u64, met)?;
     }
     Ok(())
 }
@@ -147,9 +117,10 @@ fn events_of(row: Row) -> (usize, usize) {
     }
 }
 
-// Whether the class's last event says why, where a row moves an entry: for bytes or age it cites the survey.
+// Whether the class's last event is the one of a row, if it makes one. For bytes or age it cites the survey.
 fn is_said(world: &World, row: Row, survey: Survey) -> bool {
-    let why = match last_event(&world.class) {
+    let event = last_event(&world.class);
+    let why = match event {
         Some(ClassEvent::Shifted(shifted)) => Some(shifted.why),
         _ => None,
     };
@@ -158,7 +129,9 @@ fn is_said(world: &World, row: Row, survey: Survey) -> bool {
         HotForced => why == Some(Why::Forced),
         Over => why == Some(Why::Over(survey.place)),
         Old => why == Some(Why::Old(survey.place)),
-        Dead | ColdTaken | Stranger | Kept | AtLimit | AtAge | ColdKept | TempAlive => true,
+        Dead => matches!(event, Some(ClassEvent::Reclaimed(_))),
+        ColdTaken => matches!(event, Some(ClassEvent::Evicted(_))),
+        Stranger | Kept | AtLimit | AtAge | ColdKept | TempAlive => true,
     }
 }
 
@@ -171,12 +144,24 @@ fn way_of(seg: Seg, full: bool, chance: u64) -> Way {
     }
 }
 
-// A list that has a tail, the tail's number, and a way to judge it.
-fn drawn_tail(game: &Game, dice: &mut Dice) -> Option<(u64, Seg, Way)> {
+// A list that has a tail, the tail's number, how old its entry is, and a way to judge it.
+fn drawn_tail(game: &Game, dice: &mut Dice) -> Option<(u64, u64, Seg, Way)> {
     let seg = SEGS[dice.below(4) as usize];
     let way = way_of(seg, game.world.class.is_full(), dice.below(4));
-    let number = game.lists.tail(seg)?;
-    Some((number, seg, way))
+    let tail = game.world.class.from_tail(seg, 0)?;
+    Some((tail.number, game.moment.saturating_sub(tail.time), seg, way))
+}
+
+// What is known of an item after a row: it goes, or its mark is cleared, so that the next hit makes it active again.
+fn known_after(row: Row, known: Known) -> Known {
+    match done_of(row) {
+        Done::Reclaimed | Done::Evicted => Known {
+            held: false,
+            ..known
+        },
+        Done::ToWarm | Done::WithinWarm => Known { hits: 1, ..known },
+        Done::ToCold | Done::Stayed | Done::Alive(_) | Done::Stranger => known,
+    }
 }
 
 fn mode_of(way: Way, survey: Survey) -> Mode {
@@ -195,7 +180,7 @@ fn check_events<R: Abort>(rt: &R, before: (usize, usize), after: (usize, usize),
     assert_eq!(rt; after, (class, stripe), "at {met:?}");
 }
 
-// Judges a tail, and does to the plain program what the row says.
+// Judges a tail, and compares what is left.
 fn judge_both<R: Abort>(
     rt: &R,
     game: &mut Game,
@@ -209,12 +194,23 @@ fn judge_both<R: Abort>(
     let judged = judge(&mut game.world, seg, mode_of(way, survey), game.moment)?;
     let world = &game.world;
     let after = events(&world.class, &world.stripe);
-    game.lists
-        .perform(game.world.alloc, number, row, game.moment)?;
     assert_eq!(rt; judged, Some((number, done_of(row))), "at {met:?}");
     check_events(rt, before, after, met);
-    assert!(rt; is_said(&game.world, row, survey), "at {met:?}");
-    check_same(rt, &game.world, &game.lists, met)
+    assert!(rt; is_said(world, row, survey), "at {met:?}");
+    if let Some(known) = game.items.get_mut(number as usize) {
+        *known = known_after(row, *known);
+    }
+    check_same(rt, game, met)
+}
+
+// The row of an entry of a list, by its age and a survey.
+fn row_at(game: &Game, number: u64, age: u64, seg: Seg, way: Way, survey: Survey) -> Option<Row> {
+    let known = game.items.get(number as usize).copied()?;
+    if !known.held {
+        return Some(Stranger);
+    }
+    let due = due_of(seg, game.world.class.bytes(seg), age, survey, game.shares);
+    row_of(seg, way, known.is_dead(game.moment), known.hits >= 2, due)
 }
 
 // Judges the tail of a list by a survey, if it has any, and compares what is left.
@@ -222,29 +218,15 @@ fn judge_one<R: Abort>(
     rt: &R,
     game: &mut Game,
     dice: &mut Dice,
-    sums: Sums,
     survey: Survey,
 ) -> Result<Option<Met>, Fail> {
-    let Some((number, seg, way)) = drawn_tail(game, dice) else {
+    let Some((number, age, seg, way)) = drawn_tail(game, dice) else {
         return Ok(None);
     };
-    let row = game
-        .lists
-        .row(number, seg, way, game.moment, sums, game.shares)
-        .expect(rt, "a row");
+    let row = row_at(game, number, age, seg, way, survey).expect(rt, "a row");
     let met = (seg, way, row);
     judge_both(rt, game, number, met, survey)?;
     Ok(Some(met))
-}
-
-// A survey, which says what the plain program says.
-fn surveyed<R: Abort>(rt: &R, game: &mut Game, sums: Sums) -> Result<Survey, Fail> {
-    let survey = game.world.class.survey(WHO, game.moment)?;
-    assert_eq!(rt;
-        (survey.total, survey.cold_age),
-        (sums.total, sums.cold_age)
-    );
-    Ok(survey)
 }
 
 // Judges the tails of two lists by one survey.
@@ -254,10 +236,9 @@ fn judge_two<R: Abort>(
     dice: &mut Dice,
     met: &mut Vec<Met>,
 ) -> Result<(), Fail> {
-    let sums = game.lists.sums(game.moment);
-    let survey = surveyed(rt, game, sums)?;
+    let survey = game.world.class.survey(WHO, game.moment)?;
     for _ in 0..2 {
-        if let Some(one) = judge_one(rt, game, dice, sums, survey)? {
+        if let Some(one) = judge_one(rt, game, dice, survey)? {
             met.push(one)?;
         }
     }

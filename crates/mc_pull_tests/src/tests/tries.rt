@@ -269,7 +269,11 @@ static BURIED: [Row; 9] = [
         Bury(0),
         Nothing,
         "Reclaimed",
-        ["[reclaims 0 at 1]", "", "[loses [97] dead at 1005]"],
+        [
+            "[reclaims 0 dead at 1005, at 1]",
+            "",
+            "[loses [97] dead at 1005]",
+        ],
     ),
     (Get(b'a'), Nothing, "Miss", DOES),
     (Set(b'a', 1), Home, "Stored", ["[links 1]", "", "[does]"]),

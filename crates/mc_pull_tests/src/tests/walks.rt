@@ -81,7 +81,7 @@ static CHUNK_OF_THE_DEAD: [Row; 4] = [
         Walk(Evict(1001, &[true; 5])),
         "1 reclaimed, 0 moved, 0 evicted, 0 passed",
     ),
-    (See(LastOfClass), "reclaims 0 at 6"),
+    (See(LastOfClass), "reclaims 0 dead at 1001, at 6"),
     (See(LastOfStripe), "loses [97] dead at 1001"),
     (See(List(Cold)), "[1, 2, 3, 4]"),
 ];

@@ -1,7 +1,7 @@
 use Rattle.std.proofs.Common.{sym, subst, arith}
 use Rattle.mc_item.specs.Counts.{no_counts}
 use Rattle.mc_crawl.specs.CrawlCount.{IsBalanced, MayCount}
-use Rattle.mc_crawl_tests.proofs.tests.crawling.empty.Goals as goal
+use Rattle.mc_pull_tests.proofs.tests.crawling.empty.Goals as goal
 
 pub returns : goal.returns
 returns c = record {
