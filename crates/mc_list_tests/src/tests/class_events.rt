@@ -1,14 +1,13 @@
 //! Each kind of event of a class, read back from its history.
-ghost use Rattle.std.specs.Prelude.{◌≡◌, ◌≤◌, ◌^◌, IfOk};
+ghost use Rattle.std.specs.Prelude.{◌≡◌, ◌≤◌, ◌^◌};
 
+use super::class_lists::class_of;
 use super::deeds::{
     Call, New, evict, force, hit, link, reclaim, refuse, try_set_chunks, unlink, wake,
 };
+use super::rows::Start;
 use super::same;
-use mc_item::{
-    ClassEvent, ClassNo, Config, Evicted, Expiry, Limited, Linked, Numbers, Reclaimed, Seg,
-    Shifted, Surveyed, Unlinked, Who, Why,
-};
+use mc_item::{Expiry, Seg, Shifted, Who, Why};
 use mc_segment::ClassState;
 use std::alloc::Global;
 use std::process::Abort;
@@ -21,23 +20,13 @@ fn who_of(turn: u64) -> Who
     Who { caller: 9, turn }
 }
 
-// A class of six chunks. HOT may have a fifth of the bytes, and a fifth of COLD's age.
-fn class_of_six(alloc: Global) -> Result<ClassState, Fail>
-    ensures { IfOk result (λ c. (c.rule.hot_percent ≡ 20) × (c.rule.hot_factor ≡ 20)) }
-{
-    let sizes = Numbers::from_vec(Vec::from_slice(alloc, &[96])?);
-    let chunks = Numbers::from_vec(Vec::from_slice(alloc, &[6])?);
-    let usual = Config::usual(alloc, 3)?;
-    let config = Config {
-        sizes,
-        chunks,
-        hot_percent: 20,
-        hot_factor: 20,
-        max_events: 32,
-        ..usual
-    };
-    Ok(ClassState::new(alloc, ClassNo(1), &config.check()?))
-}
+// A class of six chunks, whose history holds 32 events.
+const SIX: Start = Start {
+    chunks: 6,
+    temp: false,
+    max_events: 32,
+    keeps_events: true,
+};
 
 // Who makes the event of a turn, and the place that it cites.
 fn call_of(turn: u64, at: u64) -> Call {
@@ -110,91 +99,10 @@ fn moves_for_age<R: Abort>(rt: &R, class: &mut ClassState, turn: u64, moment: u6
     class.shift(shifted).expect(rt, "a move");
 }
 
-fn linked_text<R: Abort>(rt: &R, alloc: Global, e: &Linked) -> String {
-    format!(in alloc;
-        "{:?}: {} linked in {:?} at {}, {} bytes, key {:?}",
-        e.who,
-        e.number,
-        e.seg,
-        e.moment,
-        e.cost,
-        e.key.bytes()
-    )
-    .expect(rt, "a text")
-}
-
-fn shifted_text<R: Abort>(rt: &R, alloc: Global, e: &Shifted) -> String {
-    format!(in alloc;
-        "{:?}: {} from {:?} to {:?} at {}, {:?}, past {:?}, {}",
-        e.who,
-        e.number,
-        e.from_seg,
-        e.to_seg,
-        e.moment,
-        e.why,
-        e.passed.as_slice(),
-        e.at
-    )
-    .expect(rt, "a text")
-}
-
-fn evicted_text<R: Abort>(rt: &R, alloc: Global, e: &Evicted) -> String {
-    format!(in alloc;
-        "{:?}: {} evicted past {:?}, {}",
-        e.who,
-        e.number,
-        e.passed.as_slice(),
-        e.at
-    )
-    .expect(rt, "a text")
-}
-
-fn reclaimed_text<R: Abort>(rt: &R, alloc: Global, e: &Reclaimed) -> String {
-    format!(in alloc;
-        "{:?}: {} reclaimed at {}, {}",
-        e.who, e.number, e.moment, e.at
-    )
-    .expect(rt, "a text")
-}
-
-fn surveyed_text<R: Abort>(rt: &R, alloc: Global, e: &Surveyed) -> String {
-    format!(in alloc;
-        "{:?}: {} bytes at {}, age {}",
-        e.who, e.total, e.moment, e.cold_age
-    )
-    .expect(rt, "a text")
-}
-
-fn unlinked_text<R: Abort>(rt: &R, alloc: Global, e: &Unlinked) -> String {
-    format!(in alloc; "{:?}: {} unlinked", e.who, e.number).expect(rt, "a text")
-}
-
-fn refused_text<R: Abort>(rt: &R, alloc: Global, who: Who) -> String {
-    format!(in alloc; "{who:?}: refused").expect(rt, "a text")
-}
-
-fn limited_text<R: Abort>(rt: &R, alloc: Global, e: &Limited) -> String {
-    format!(in alloc; "{:?}: limit of {} chunks", e.who, e.chunks).expect(rt, "a text")
-}
-
-// An event in short.
-fn event_text<R: Abort>(rt: &R, alloc: Global, event: &ClassEvent) -> String {
-    match event {
-        ClassEvent::Linked(e) => linked_text(rt, alloc, e),
-        ClassEvent::Unlinked(e) => unlinked_text(rt, alloc, e),
-        ClassEvent::Shifted(e) => shifted_text(rt, alloc, e),
-        ClassEvent::Evicted(e) => evicted_text(rt, alloc, e),
-        ClassEvent::Reclaimed(e) => reclaimed_text(rt, alloc, e),
-        ClassEvent::Surveyed(e) => surveyed_text(rt, alloc, e),
-        ClassEvent::Refused(e) => refused_text(rt, alloc, e.who),
-        ClassEvent::Limited(e) => limited_text(rt, alloc, e),
-    }
-}
-
-// The event at a place of the history, in short.
+// The event at a place of the history.
 fn text_of_event<R: Abort>(rt: &R, alloc: Global, class: &ClassState, place: usize) -> String {
     let event = class.history().get(place).expect(rt, "an event");
-    event_text(rt, alloc, event)
+    format!(in alloc; "{event:?}").expect(rt, "a text")
 }
 
 fn check_event<R: Abort>(rt: &R, alloc: Global, class: &ClassState, place: usize, text: &str) {
@@ -212,28 +120,28 @@ fn check_events<R: Abort>(rt: &R, alloc: Global, class: &ClassState, texts: &[&s
 
 // What happens in the test below.
 static TEXTS: [&str; 22] = [
-    "Who { caller: 9, turn: 1 }: 0 linked in Hot at 1001, 60 bytes, key [107, 101, 121, 45, 111, 102, 45, 109, 111, 114, 101, 45, 116, 104, 97, 110, 45, 116, 104, 105, 114, 116, 121, 45, 98, 121, 116, 101, 115, 45, 45, 97]",
-    "Who { caller: 9, turn: 2 }: 1 linked in Hot at 1002, 61 bytes, key [98]",
-    "Who { caller: 9, turn: 3 }: 2 linked in Hot at 1003, 62 bytes, key [99]",
-    "Who { caller: 9, turn: 4 }: 3 linked in Hot at 1004, 63 bytes, key [100]",
-    "Who { caller: 9, turn: 5 }: 4 linked in Hot at 1005, 64 bytes, key [101]",
-    "Who { caller: 9, turn: 6 }: 5 linked in Hot at 1006, 10 bytes, key [102]",
-    "Who { caller: 9, turn: 7 }: 320 bytes at 1007, age 0",
-    "Who { caller: 9, turn: 7 }: 4 from Hot to Cold at 1007, Over(6), past [0, 1, 2, 3], 31",
-    "Who { caller: 9, turn: 8 }: 1 from Hot to Cold at 1008, Forced, past [0], 33",
-    "Who { caller: 9, turn: 9 }: 3 from Hot to Warm at 1009, Active, past [0, 2], 34",
-    "Who { caller: 9, turn: 10 }: 0 from Hot to Cold at 1010, Forced, past [], 35",
-    "Who { caller: 9, turn: 11 }: 2 from Hot to Cold at 1011, Forced, past [], 36",
-    "Who { caller: 9, turn: 12 }: refused",
-    "Who { caller: 9, turn: 13 }: 2 evicted past [4, 1, 0], 37",
-    "Who { caller: 9, turn: 14 }: 1 from Cold to Warm at 1014, Hit, past [], 38",
-    "Who { caller: 9, turn: 15 }: 4 reclaimed at 1015, 39",
-    "Who { caller: 9, turn: 16 }: 194 bytes at 2000, age 999",
-    "Who { caller: 9, turn: 16 }: 5 from Hot to Cold at 2000, Old(16), past [], 32",
-    "Who { caller: 9, turn: 17 }: 3 unlinked",
-    "Who { caller: 9, turn: 18 }: 0 unlinked",
-    "Who { caller: 9, turn: 19 }: limit of 1 chunks",
-    "Who { caller: 9, turn: 20 }: limit of 1048576 chunks",
+    "Linked(Linked { who: Who { caller: 9, turn: 1 }, number: 0, key: Key { bytes: [107, 101, 121, 45, 111, 102, 45, 109, 111, 114, 101, 45, 116, 104, 97, 110, 45, 116, 104, 105, 114, 116, 121, 45, 98, 121, 116, 101, 115, 45, 45, 97] }, cost: 60, seg: Hot, moment: 1001 })",
+    "Linked(Linked { who: Who { caller: 9, turn: 2 }, number: 1, key: Key { bytes: [98] }, cost: 61, seg: Hot, moment: 1002 })",
+    "Linked(Linked { who: Who { caller: 9, turn: 3 }, number: 2, key: Key { bytes: [99] }, cost: 62, seg: Hot, moment: 1003 })",
+    "Linked(Linked { who: Who { caller: 9, turn: 4 }, number: 3, key: Key { bytes: [100] }, cost: 63, seg: Hot, moment: 1004 })",
+    "Linked(Linked { who: Who { caller: 9, turn: 5 }, number: 4, key: Key { bytes: [101] }, cost: 64, seg: Hot, moment: 1005 })",
+    "Linked(Linked { who: Who { caller: 9, turn: 6 }, number: 5, key: Key { bytes: [102] }, cost: 10, seg: Hot, moment: 1006 })",
+    "Surveyed(Surveyed { who: Who { caller: 9, turn: 7 }, moment: 1007, total: 320, cold_age: 0 })",
+    "Shifted(Shifted { who: Who { caller: 9, turn: 7 }, number: 4, from_seg: Hot, to_seg: Cold, why: Over(6), moment: 1007, passed: Passed { numbers: [0, 1, 2, 3], count: 4 }, at: 31 })",
+    "Shifted(Shifted { who: Who { caller: 9, turn: 8 }, number: 1, from_seg: Hot, to_seg: Cold, why: Forced, moment: 1008, passed: Passed { numbers: [0, 0, 0, 0], count: 1 }, at: 33 })",
+    "Shifted(Shifted { who: Who { caller: 9, turn: 9 }, number: 3, from_seg: Hot, to_seg: Warm, why: Active, moment: 1009, passed: Passed { numbers: [0, 2, 0, 0], count: 2 }, at: 34 })",
+    "Shifted(Shifted { who: Who { caller: 9, turn: 10 }, number: 0, from_seg: Hot, to_seg: Cold, why: Forced, moment: 1010, passed: Passed { numbers: [0, 0, 0, 0], count: 0 }, at: 35 })",
+    "Shifted(Shifted { who: Who { caller: 9, turn: 11 }, number: 2, from_seg: Hot, to_seg: Cold, why: Forced, moment: 1011, passed: Passed { numbers: [0, 0, 0, 0], count: 0 }, at: 36 })",
+    "Refused(Refused { who: Who { caller: 9, turn: 12 } })",
+    "Evicted(Evicted { who: Who { caller: 9, turn: 13 }, number: 2, passed: Passed { numbers: [4, 1, 0, 0], count: 3 }, at: 37 })",
+    "Shifted(Shifted { who: Who { caller: 9, turn: 14 }, number: 1, from_seg: Cold, to_seg: Warm, why: Hit, moment: 1014, passed: Passed { numbers: [0, 0, 0, 0], count: 0 }, at: 38 })",
+    "Reclaimed(Reclaimed { who: Who { caller: 9, turn: 15 }, number: 4, moment: 1015, at: 39 })",
+    "Surveyed(Surveyed { who: Who { caller: 9, turn: 16 }, moment: 2000, total: 194, cold_age: 999 })",
+    "Shifted(Shifted { who: Who { caller: 9, turn: 16 }, number: 5, from_seg: Hot, to_seg: Cold, why: Old(16), moment: 2000, passed: Passed { numbers: [0, 0, 0, 0], count: 0 }, at: 32 })",
+    "Unlinked(Unlinked { who: Who { caller: 9, turn: 17 }, number: 3 })",
+    "Unlinked(Unlinked { who: Who { caller: 9, turn: 18 }, number: 0 })",
+    "Limited(Limited { who: Who { caller: 9, turn: 19 }, chunks: 1 })",
+    "Limited(Limited { who: Who { caller: 9, turn: 20 }, chunks: 1048576 })",
 ];
 
 // The limit of chunks becomes the least one, and the greatest one.
@@ -270,7 +178,7 @@ fn plays<R: Abort>(rt: &R, alloc: Global, class: &mut ClassState)
 #[test]
 fn each_class_event_is_read_as_it_was_noted(rt: HostRuntime) -> Result<(), Fail> {
     let alloc = rt.alloc();
-    let mut class = class_of_six(alloc)?;
+    let mut class = class_of(alloc, SIX)?;
     plays(&rt, alloc, &mut class);
     check_events(&rt, alloc, &class, TEXTS.as_slice());
     Ok(())

@@ -1,4 +1,6 @@
 //! Small classes by calls: lists, sums and surveys were worked out by hand.
+ghost use Rattle.std.specs.Prelude.{◌≡◌, IfOk};
+
 use super::rows::Ask::{Do, Hit, KeepActive, Reserve, See, SetChunks, Survey, Surveys};
 use super::rows::Deed::{Evict, Force, Link, Reclaim, Refuse, Unlink};
 use super::rows::Sight::{
@@ -12,8 +14,10 @@ use mc_segment::ClassState;
 use std::alloc::Global;
 use std::test::Fail;
 
-/// A class that begins so.
-pub(super) fn class_of(alloc: Global, start: Start) -> Result<ClassState, Fail> {
+/// A class that begins so. HOT may have a fifth of the bytes, and a fifth of COLD's age.
+pub(super) fn class_of(alloc: Global, start: Start) -> Result<ClassState, Fail>
+    ensures { IfOk result (λ c. (c.rule.hot_percent ≡ 20) × (c.rule.hot_factor ≡ 20)) }
+{
     let sizes = Numbers::from_vec(Vec::from_slice(alloc, &[96])?);
     let chunks = Numbers::from_vec(Vec::from_slice(alloc, &[start.chunks])?);
     let usual = Config::usual(alloc, 3)?;

@@ -210,18 +210,37 @@ fn an_owner_catches_up_with_a_list(rt: HostRuntime) {
     asserts_counts(&rt, &board, &mut token, [0, 0, 2]);
 }
 
+// The first owner tells the first token of two events, the other one the second token of one. Then the second token learns what
+// the first has seen, and is compared with both.
+fn tell_and_learn(
+    board: &Board,
+    owner: &mut Owner,
+    other: &mut Owner,
+    first: &mut Seen,
+    second: &mut Seen,
+)
+    requires owners { (owner.old.board ≡ board.now.table) × (other.old.board ≡ board.now.table) }
+    requires tokens { (first.old.board ≡ board.now.table) × (second.old.board ≡ board.now.table) }
+    requires empty { (owner.old.history ≡ []) × (other.old.history ≡ []) }
+    ensures { second.new.board ≡ second.old.board }
+{
+    let event = juggled();
+    append_and_tell(board, owner, &event, 2, first);
+    append_and_tell(board, other, &event, 1, second);
+    second.learn(board, first);
+    owner.compare(board, second);
+    other.compare(board, second);
+}
+
 // One token was told of lock 0, another of lock 1. Once the second has learnt what the first has seen, it counts both.
 #[test]
 fn a_token_learns_what_another_has_seen(rt: HostRuntime) {
-    let event = juggled();
     let (board, mut owners, mut first) = Board::open(rt.alloc(), callers(3)).expect(&rt, "a board");
+    owners.pop().expect(&rt, "an owner");
+    let mut other = owners.pop().expect(&rt, "an owner");
+    let mut owner = owners.pop().expect(&rt, "an owner");
     let mut second = first.split(&board);
-    asserts_many(&rt, owners.len(), 3);
-    append_and_tell(&board, &mut owners[0], &event, 2, &mut first);
-    append_and_tell(&board, &mut owners[1], &event, 1, &mut second);
-    second.learn(&board, &mut first);
-    owners[0].compare(&board, &mut second);
-    owners[1].compare(&board, &mut second);
+    tell_and_learn(&board, &mut owner, &mut other, &mut first, &mut second);
     asserts_counts(&rt, &board, &mut second, [2, 1, 0]);
 }
 
@@ -341,7 +360,9 @@ fn no_lock_is_busy_at_rest(rt: HostRuntime) {
     );
     asserts_many(&rt, owners.len(), 3);
     let mut caller = owners.pop().expect(&rt, "an owner");
-    catch_up_cooled(&rt, rt.alloc(), &board, &mut owners[0], &mut caller);
+    owners.pop().expect(&rt, "an owner");
+    let mut owner = owners.pop().expect(&rt, "an owner");
+    catch_up_cooled(&rt, rt.alloc(), &board, &mut owner, &mut caller);
     asserts_two(&rt, &board, &mut token);
-    owners[0].compare(&board, &mut token);
+    owner.compare(&board, &mut token);
 }
