@@ -1,4 +1,4 @@
-//! Tests of mc_item's calls against values from outside.
+//! Tests of mc_item's and mc_options' calls against values from outside.
 #![tactic(auto)]
 
 #[cfg(test)]

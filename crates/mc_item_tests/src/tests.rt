@@ -1,9 +1,12 @@
-//! Tests against values from outside: the parts of the table of commands, worked examples, and the limits of each rule.
+//! Tests against values from outside: the parts of the table of commands, worked examples, the limits of each rule, and the plans
+//! that the words of a command line ask for.
 mod config;
 mod copies;
 mod joined_values;
 mod keys;
+mod moments;
 mod numbers;
+mod plans;
 mod rows;
 
 ghost use Rattle.std.specs.Prelude.{◌≡◌};

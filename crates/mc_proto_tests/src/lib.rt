@@ -1,4 +1,4 @@
-//! Tests of the text protocol: lines, cuts, limits, texts and sinks.
+//! Tests of the text protocol, and of the directives of scripts.
 #![tactic(auto)]
 
 #[cfg(test)]

@@ -1,9 +1,12 @@
-//! Tests of the whole: lines, cuts, limits, texts and sinks. Expected values are written from the rules by hand.
+//! Tests of the whole: lines, cuts, limits, texts and sinks, and directives in scripts over calls that are made up. Expected values
+//! are written from the rules by hand.
 mod dice;
+mod directives;
 mod drawn;
 mod gathered;
 mod hostile;
 mod lines;
+mod noted;
 mod pieces;
 mod plain;
 mod replies;

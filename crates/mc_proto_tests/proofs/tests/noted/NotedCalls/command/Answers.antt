@@ -3,7 +3,7 @@ use Rattle.std.proofs.Common.{arith, length-append, refl, sym, ap, [], None}
 use Rattle.mc_item.specs.Answer.{row_of}
 use Rattle.mc_item.specs.declared.{answer.Site.Site, command.Command.Command, reply.Room.TheVariants.Keep}
 use Rattle.mc_script.specs.Exchanges.{Exchange}
-use Rattle.mc_script_tests.proofs.tests.noted.NotedCalls.command.Goals as goal
+use Rattle.mc_proto_tests.proofs.tests.noted.NotedCalls.command.Goals as goal
 
 pub returns-clause-ok : goal.returns-clause-ok
 returns-clause-ok g c =

@@ -1,9 +1,7 @@
 //! The directives that make calls, in scripts over calls that are made up. Expected values are written from
 //! the rules by hand.
-mod noted;
-
+use super::noted::{Ran, run_noted};
 use mc_script::Outcome;
-use noted::{Ran, run_noted};
 use std::alloc::Global;
 use std::fmt::Debug;
 use std::process::Abort;

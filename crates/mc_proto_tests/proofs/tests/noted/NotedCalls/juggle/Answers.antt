@@ -1,7 +1,7 @@
 -- The maintainer's call is one more.
 use Rattle.std.proofs.Common.{arith, length-append, refl}
 use Rattle.mc_script.specs.Exchanges.{Exchange}
-use Rattle.mc_script_tests.proofs.tests.noted.NotedCalls.juggle.Goals as goal
+use Rattle.mc_proto_tests.proofs.tests.noted.NotedCalls.juggle.Goals as goal
 
 pub returns-clause-ok : goal.returns-clause-ok
 returns-clause-ok g c = record {

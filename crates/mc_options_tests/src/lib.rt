@@ -1,5 +1,0 @@
-//! Tests of the plans that options and words ask for.
-#![tactic(auto)]
-
-#[cfg(test)]
-mod tests;
