@@ -1,15 +1,16 @@
 -- The turns of a caller's history, and the calls that they are for.
 use Rattle.std.proofs.Common.{◌≡◌, ◌⊎◌, ◌<◌, ◌≤◌, ℕ, zero, suc, List, [], ◌∷◌, ◌++◌, Some, Result, Ok, Err, refl, sym, ap, ◌∙◌, subst, inl, inr, ⊎_elim, arith, length, length-append, append-nil, None, map}
-use Rattle.std.specs.Prelude.{IfErr, IsErrOf, OnErr, OnOk, slice_get}
+use Rattle.std.specs.Prelude.{IfErr, IsErrOf, OnOk, slice_get}
 use Rattle.std.proofs.lemmas.List.{length-map}
-use Rattle.mc_item.specs.declared.{call_event.CallEvent.CallEvent, command.Command.Command, config.Config.Config, fault.Fault.Fault, fault.Fault.TheVariants.HistoryFull}
+use Rattle.mc_item.specs.declared.{call_event.CallEvent.CallEvent, command.Command.Command, config.Config.Config, fault.Fault.Fault, fault.Fault.TheVariants.HistoryFull, fault.Fault.TheVariants.NoMemory}
 use Rattle.mc_item.specs.declared.item.ClassNo.{ClassNo}
 use Rattle.mc_item.specs.declared.call_event.CallEvent.TheVariants as calls
 use Rattle.mc_script.specs.Exchanges.{Asks, Begun, Crawls, Exchange, Juggles, Limits, ScriptCall}
 use Rattle.mc_store.specs.Callers.{answered_at, asked_for, moment_of, turns_of}
-use Rattle.mc_store.specs.{Calls.IsCutBy}
-use Rattle.mc_store.specs.{Passes.PassView, Passes.next_who, Full.LacksPlaces, Serving.HasSeenShort, Serving.IsShortFor}
-use Rattle.mc_store.proofs.{FullLemmas.full_short, ShortHistoryLemmas.short_lock, SyncedStepLemmas.any_short}
+use Rattle.mc_store.specs.Calls.{IsUnbegun}
+use Rattle.mc_board.specs.declared.rule.Sight.{Sight}
+use Rattle.mc_store.specs.{Passes.PassView, Passes.next_who, Full.LacksPlaces, Serving.HasSeenShort}
+use Rattle.mc_store.proofs.{ShortHistoryLemmas.short_lock, SyncedStepLemmas.any_short}
 use Rattle.mc_driver.specs.{Called.AreInTurn, Called.call_event_of, Called.turns_for, Caller.MayCall}
 use Rattle.mc_driver.proofs.NotedPlaceLemmas.{get_next}
 
@@ -132,52 +133,19 @@ may_again config old new (Err fault) may turn = tt
 
 -- ---- a full history
 
--- how a command fails: before its turn, for the number of turns at most, or broken off by this fault
-abbrev pub Fails : Config → ℕ → (old new : PassView) → Command → ℕ → Fault → Type 0
-Fails config number old new command moment fault =
-    ((new ≡ old) × (fault ≡ HistoryFull → config.max_events ≤ old.turn)) ⊎ IsCutBy config number old new command moment fault
+-- a class's history with no place left is short
+pub lacks_short : (config : Config) (sight : Sight) (class : ClassNo) → LacksPlaces config sight class 1 → HasSeenShort config sight
+lacks_short config sight class lacks =
+    let short = lacks.short in
+    let two : LacksPlaces config sight class 2 = record { is = lacks.is; short = omega (arith, short) } in
+    short_lock config sight (any_short config sight two)
 
--- one that was broken off for a full history has seen a short one
-pub short_any : {T : Type 0} (config : Config) (number : ℕ) (old new : PassView) (command : Command) (moment : ℕ) (r : Result T Fault) → number < config.stripes
-    → IfErr r (Fails config number old new command moment) → IsErrOf r HistoryFull → HasSeenShort config new.sight ⊎ (config.max_events ≤ old.turn)
-short_any config number old new command moment r of fails is = ⊎_elim
-    (λ early. inr (early.1 refl))
-    (λ cut. inl (full_short config number cut.old cut.new new.sight command moment of (cut.grew.site.limit ∙ cut.grew.made_with.limit) cut.grew.now (cut.full refl)))
-    (subst (λ x. IfErr x (Fails config number old new command moment)) is fails)
-
--- one that failed for a history that is short for a class, too
-pub short_class_any : {T : Type 0} (config : Config) (old new : PassView) (class : ClassNo) (r : Result T Fault)
-    → (IsErrOf r HistoryFull → IsShortFor config class new.sight ⊎ (config.max_events ≤ old.turn)) → IsErrOf r HistoryFull → HasSeenShort config new.sight ⊎ (config.max_events ≤ old.turn)
-short_class_any config old new class r full is = ⊎_elim (λ short. inl (short_lock config new.sight short)) (λ most. inr most) (full is)
-
--- and one that failed for a class's history with no place left
-pub full_class_any : {T : Type 0} (config : Config) (old new : PassView) (class : ClassNo) (r : Result T Fault)
-    → (IsErrOf r HistoryFull → LacksPlaces config new.sight class 1 ⊎ (config.max_events ≤ old.turn)) → IsErrOf r HistoryFull → HasSeenShort config new.sight ⊎ (config.max_events ≤ old.turn)
-full_class_any config old new class r full is = ⊎_elim (λ lacks. inl (by lacks)) (λ most. inr most) (full is)
-  where
-    by : LacksPlaces config new.sight class 1 → HasSeenShort config new.sight
-    by lacks =
-        let short = lacks.short in
-        let two : LacksPlaces config new.sight class 2 = record { is = lacks.is; short = omega (arith, short) } in
-        short_lock config new.sight (any_short config new.sight two)
-
--- a call that was refused for the number of turns finds as many calls in its caller's history
-pub full_calls : {T : Type 0} (config : Config) (old new : PassView) (call : CallEvent) (r : Result T Fault) → MayCall config old → turns_of (call ∷ []) ≡ call ∷ []
-    → OnErr r ((new ≡ old) ⊎ (new.calls ≡ old.calls ++ call ∷ [])) → (IsErrOf r HistoryFull → HasSeenShort config new.sight ⊎ (config.max_events ≤ old.turn))
+-- a call that failed for a full history has seen a short one, or its caller has had all its turns
+pub full_calls : {T : Type 0} (config : Config) (old new : PassView) (r : Result T Fault) (Till : Fault → Type 0) → MayCall config old
+    → IfErr r (λ fault. IsUnbegun config old new fault ⊎ Till fault) → (Till HistoryFull → HasSeenShort config new.sight)
     → IsErrOf r HistoryFull → HasSeenShort config new.sight ⊎ (config.max_events ≤ length (turns_of new.calls))
-full_calls config old new call r may turn cut full is = ⊎_elim
-    (λ short. inl short)
-    (λ most. inr (many (subst (λ x. OnErr x ((new ≡ old) ⊎ (new.calls ≡ old.calls ++ call ∷ []))) is cut) most))
-    (full is)
-  where
-    many : (new ≡ old) ⊎ (new.calls ≡ old.calls ++ call ∷ []) → config.max_events ≤ old.turn → config.max_events ≤ length (turns_of new.calls)
-    many (inl same) most = omega (arith, may.turns, ap (λ (p : PassView). length (turns_of p.calls)) same, most)
-    many (inr more) most =
-        let all : length (turns_of new.calls) ≡ length (turns_of old.calls ++ call ∷ []) = ap (λ (l : List CallEvent). length l) (ap turns_of more ∙ turns_of-call old.calls call turn) in
-        omega (arith, may.turns, all, length-append (turns_of old.calls) (call ∷ []), most)
-
--- a command that was broken off adds at most its call
-pub cut_calls : {T : Type 0} (config : Config) (number : ℕ) (old new : PassView) (command : Command) (moment : ℕ) (r : Result T Fault)
-    → IfErr r (Fails config number old new command moment) → OnErr r ((new ≡ old) ⊎ (new.calls ≡ old.calls ++ asked_for command moment ∷ []))
-cut_calls config number old new command moment (Ok x) fails = tt
-cut_calls config number old new command moment (Err fault) fails = ⊎_elim (λ early. inl early.0) (λ cut. inr cut.noted) fails
+full_calls config old new (Ok x) Till may cut short is = absurd (cc is)
+full_calls config old new (Err NoMemory) Till may cut short is = absurd (cc is)
+full_calls config old new (Err HistoryFull) Till may (inr till) short is = inl (short till)
+full_calls config old new (Err HistoryFull) Till may (inl early) short is =
+    inr (omega (arith, may.turns, ap (λ (p : PassView). length (turns_of p.calls)) early.0, early.1 refl))

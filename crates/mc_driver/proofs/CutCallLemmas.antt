@@ -16,7 +16,7 @@ use Rattle.mc_pull.specs.Rounds.{Rounds, rounds}
 use Rattle.mc_script.specs.Exchanges.{Asks, Begun, Crawls, Juggles, Limits, ScriptCall}
 use Rattle.mc_segment.specs.ClassState.{ClassView}
 use Rattle.mc_stripe.specs.{Plan.visible_row, StripeState.stripe}
-use Rattle.mc_store.specs.{Accounts.Enters, Accounts.IsOfCommand, Accounts.IsOfWalk, Accounts.Stretch, Calls.HasGained, Calls.IsCutBy, Calls.IsJuggleCut, Calls.IsJuggledTill, Calls.IsUpkeepCut}
+use Rattle.mc_store.specs.{Accounts.IsOfCommand, Accounts.Stretch, Calls.IsCutBy, Calls.IsJuggleCut, Calls.IsJuggledTill, Calls.IsLimitedBy, Calls.IsUpkeepCut}
 use Rattle.mc_store.specs.{Crawls.AreLinksCounted, Crawls.IsCrawledTill, Locked.class_lock, Locked.setting_of, Passes.PassView}
 use Rattle.mc_store.specs.{Passes.next_who, Reached.seen_stripes, Searches.IsSearchUpTo, Sides.class_told, Sides.stripe_told}
 use Rattle.mc_store.proofs.{EarnedRefusalLemmas.opened_again, LockKeepsLemmas.site_of_number, SyncedStepLemmas.map_length}
@@ -138,14 +138,14 @@ module _ (config : Config) (class : ClassNo) (before after : PassView) (moment :
   after_is (inl at) = refl
   after_is (inr rest) = refl
 
-  pub juggling_broke : IsClass (setting_of config) class → Grows before.sight after.sight → Enters (IsOfWalk config class) before.turn after.sight before.made after.made → IsBefore before.turn before.made
+  pub juggling_broke : IsClass (setting_of config) class → Grows before.sight after.sight → IsBefore before.turn before.made
       → BreaksOffAfter (EntersOnly after) config (histories_seen config before.sight) (histories_seen config after.sight) (next_who before) (begun_call (Juggles class) moment)
-  juggling_broke is grows account earlier = record {
+  juggling_broke is grows earlier = record {
     grew = seen_grow config before.sight after.sight grows;
     placed = is;
     left = (
       noted till.cut,
-      entered_only before after _ _ earlier account (λ lock place event at mine suits. ⊎_elim
+      entered_only before after _ _ earlier till.account (λ lock place event at mine suits. ⊎_elim
           (λ own.
           let seen : list_at after.sight.seen lock ≡ class_told till.history_new = ap (list_at after.sight.seen) own ∙ till.grew.now in
           let below : place < length (class_told till.history_new) = slice_get_within (class_told till.history_new) place event (ap (λ (l : List Event). slice_get l place) (sym seen) ∙ at) in
@@ -166,10 +166,10 @@ counted_told config class older newer at seen until who moment (link ∷ links) 
     counted_told config class older newer counted.2.new.history counted.0 until who moment links stretches counted.1 h_new counted.2.now counted.3
 
 -- of a crawl
-pub crawl_broke : (config : Config) (class : ClassNo) (before after : PassView) (moment : ℕ) → IsClass (setting_of config) class → Grows before.sight after.sight → IsBefore before.turn before.made
-    → IsCrawledTill config class before after moment
+pub crawl_broke : (config : Config) (class : ClassNo) (before after : PassView) (moment : ℕ) (fault : Fault) → IsClass (setting_of config) class → Grows before.sight after.sight → IsBefore before.turn before.made
+    → IsCrawledTill config class before after moment fault
     → BreaksOffAfter (EntersOnly after) config (histories_seen config before.sight) (histories_seen config after.sight) (next_who before) (begun_call (Crawls class) moment)
-crawl_broke config class before after moment is grows earlier till =
+crawl_broke config class before after moment fault is grows earlier till =
     let older = seen_stripes before.sight in
     let newer = seen_stripes after.sight in
     let told = counted_told config class older newer till.history (class_told till.history) till.until (next_who before) moment till.links till.stretches _ till.histogram refl till.counted in
@@ -194,14 +194,15 @@ crawl_broke config class before after moment is grows earlier till =
 
 -- a call that sets a limit made no event
 pub limit_broke : (config : Config) (class : ClassNo) (before after : PassView) (chunks moment : ℕ) → IsClass (setting_of config) class → Grows before.sight after.sight → IsBefore before.turn before.made
-    → Enters (λ lock place event. lock ≡ class_lock config class) before.turn after.sight before.made after.made → HasGained config class before.sight after.sight (next_who before) []
+    → IsLimitedBy config class before after chunks []
     → BreaksOffAfter (EntersOnly after) config (histories_seen config before.sight) (histories_seen config after.sight) (next_who before) (begun_call (Limits class chunks) moment)
-limit_broke config class before after chunks moment is grows earlier account by =
+limit_broke config class before after chunks moment is grows earlier limited =
+    let by = limited.gained in
     let same = append-nil by.old.history in
     record {
       grew = seen_grow config before.sight after.sight grows;
       placed = is;
-      left = entered_only before after _ _ earlier account (λ lock place event at mine own.
+      left = entered_only before after _ _ earlier limited.account (λ lock place event at mine own.
           let seen : list_at after.sight.seen lock ≡ class_told (by.old.history ++ []) = ap (list_at after.sight.seen) own ∙ by.grew.now in
           let within = stands_within board_events.Class maker_of (next_who before) by.old.history [] (by.old.history ++ []) place event (λ e. refl) by.first.each refl
           (ap (λ (l : List Event). slice_get l place) (sym seen) ∙ at) mine in

@@ -16,8 +16,8 @@ use Rattle.mc_pull.specs.{Juggle.IsJuggle, Rounds.Rounds, Rounds.rounds}
 use Rattle.mc_script.specs.Exchanges.{Asks, Crawls, Juggles, Limits, exchange}
 use Rattle.mc_segment.specs.{ClassCalls.limited_event, ClassState.ClassView}
 use Rattle.mc_stripe.specs.{Plan.dead_link, Plan.visible_row, StripeState.Stripe, StripeState.stripe}
-use Rattle.mc_store.specs.{Accounts.Enters, Accounts.IsOfCommand, Accounts.IsOfWalk, Accounts.Stretch, Commands.IsSearch, Commands.LeadsUp, Commands.burial, Searches.IsSearchFor}
-use Rattle.mc_store.specs.{Calls.IsJuggledBy, Calls.HasGained, Calls.IsRepliedBy, Locked.setting_of, Locked.class_lock, Sides.class_told, Sides.stripe_told, Crawls.AreLinksCounted}
+use Rattle.mc_store.specs.{Accounts.IsOfCommand, Accounts.Stretch, Commands.IsSearch, Commands.LeadsUp, Commands.burial, Searches.IsSearchFor}
+use Rattle.mc_store.specs.{Calls.IsJuggledBy, Calls.IsLimitedBy, Calls.IsRepliedBy, Locked.setting_of, Locked.class_lock, Sides.class_told, Sides.stripe_told, Crawls.AreLinksCounted}
 use Rattle.mc_store.specs.{Crawls.HasReclaims, Crawls.IsCrawledBy, Earned.IsLastResort, Passes.PassView, Passes.next_who, Reached.seen_stripes}
 use Rattle.mc_store.proofs.{EarnedRefusalLemmas.opened_again, LockKeepsLemmas.site_of_number}
 use Rattle.mc_driver.specs.{Caller.EntersOnly, Caller.IsBefore, Caller.histories_seen, Noted.answered_command, Noted.answered_event, Noted.stripe_with, Searched.NotesSearchFor}
@@ -117,9 +117,9 @@ replied_between config before after command moment reply some grows earlier by =
 
 -- and by juggling
 pub juggled_between : (config : Config) (class : ClassNo) (before after : PassView) (moment : ℕ) (moves : Moves) → IsClass (setting_of config) class → Grows before.sight after.sight
-    → IsBefore before.turn before.made → Enters (IsOfWalk config class) before.turn after.sight before.made after.made → IsJuggledBy config class before after moment moves
+    → IsBefore before.turn before.made → IsJuggledBy config class before after moment moves
     → StandsBetween (EntersOnly after) config (histories_seen config before.sight) (histories_seen config after.sight) (exchange before.caller before.turn (Juggles class) moment (Moved moves))
-juggled_between config class before after moment moves is grows earlier account by =
+juggled_between config class before after moment moves is grows earlier by =
     let c = by.old in
     let upkept = by.upkept in
     let advanced = c.history ++ upkept.advances in
@@ -143,7 +143,7 @@ juggled_between config class before after moment moves is grows earlier account 
           juggled = subst (λ (r : Rounds). IsJuggle r advanced upkept.answers (advanced ++ upkept.own) moves)
               (ap (λ (v : ClassView). rounds v (next_who before) moment config) same) upkept.juggle;
         },
-        entered_only before after _ _ earlier account (λ lock place event at mine suits. ⊎_elim
+        entered_only before after _ _ earlier by.account (λ lock place event at mine suits. ⊎_elim
             (λ own.
             let seen : list_at after.sight.seen lock ≡ class_told by.history_new = ap (list_at after.sight.seen) own ∙ by.grew.now in
             let within = stands_within board_events.Class maker_of (next_who before) c.history (upkept.advances ++ upkept.own) by.history_new place event (λ e. refl)
@@ -207,10 +207,10 @@ crawled_between config class before after moment histogram is grows earlier by =
 
 -- and by a new limit
 pub limited_between : (config : Config) (class : ClassNo) (before after : PassView) (chunks moment : ℕ) → IsClass (setting_of config) class → Grows before.sight after.sight → IsBefore before.turn before.made
-    → Enters (λ lock place event. lock ≡ class_lock config class) before.turn after.sight before.made after.made
-    → HasGained config class before.sight after.sight (next_who before) (limited_event (next_who before) chunks ∷ [])
+    → IsLimitedBy config class before after chunks (limited_event (next_who before) chunks ∷ [])
     → StandsBetween (EntersOnly after) config (histories_seen config before.sight) (histories_seen config after.sight) (exchange before.caller before.turn (Limits class chunks) moment Limited)
-limited_between config class before after chunks moment is grows earlier account by =
+limited_between config class before after chunks moment is grows earlier made =
+    let by = made.gained in
     let limited = limited_event (next_who before) chunks ∷ [] in
     let longer : List ClassEvent = by.old.history ++ limited in
     let now : (histories_seen config after.sight).classes class ≡ longer = ap class_events by.grew.now ∙ class_events-map longer in
@@ -225,7 +225,7 @@ limited_between config class before after chunks moment is grows earlier account
           first = by.first;
           split = now;
         },
-        entered_only before after _ _ earlier account (λ lock place event at mine own.
+        entered_only before after _ _ earlier made.account (λ lock place event at mine own.
             let seen : list_at after.sight.seen lock ≡ class_told longer = ap (list_at after.sight.seen) own ∙ by.grew.now in
             let within = stands_within board_events.Class maker_of (next_who before) by.old.history limited longer place event (λ e. refl) by.first.each refl
             (ap (λ (l : List Event). slice_get l place) (sym seen) ∙ at) mine in

@@ -18,17 +18,17 @@ use Rattle.mc_segment.specs.ClassCalls.{limited_event}
 use Rattle.mc_proto.specs.Answers.{Answer, Counted, Limited, Moved, Replied}
 use Rattle.mc_script.specs.{Calls.AddsCalls, Calls.AddsUp, Calls.BreaksOff, Calls.GoesOn, Calls.MakesCalls, Exchanges.Asks, Exchanges.Begun, Exchanges.Crawls, Exchanges.Exchange}
 use Rattle.mc_script.specs.Exchanges.{IsOfKind, IsReplyTo, Juggles, Limits, ScriptCall, exchange}
-use Rattle.mc_store.specs.Callers.{answered_at, asked_for, crawling_of, juggling_of, limits_of, turns_of}
-use Rattle.mc_store.specs.{Accounts.Enters, Accounts.IsOfWalk, Calls.IsJuggledBy, Calls.HasGained, Calls.IsRepliedBy, Crawls.IsCrawledBy, Crawls.IsCrawledTill, Locked.class_lock}
+use Rattle.mc_store.specs.Callers.{answered_at, asked_for, turns_of}
+use Rattle.mc_store.specs.{Calls.IsJuggledBy, Calls.IsLimitedBy, Calls.IsRepliedBy, Calls.IsUnbegun, Crawls.IsCrawledBy}
 use Rattle.mc_store.specs.{Locked.setting_of, Passes.PassView, Passes.next_who}
 use Rattle.mc_driver.specs.{Called.AreInTurn, Called.call_event_of}
 use Rattle.mc_driver.specs.Caller.{AreAt, AreNoted, AreRising, EntersOnly, IsAt, IsBefore, MayCall, histories_seen, places_in, view_of}
 use Rattle.mc_driver.specs.Stand.{BreaksOffAfter, Grow, StandFrom, StandsBetween, calls_at, is_command_at, nothing_seen, stripe_number}
 use Rattle.mc_driver.proofs.NotedPlaceLemmas.{at_later, at_push_if, get_next, places_in-push, rising_push_if, stripe_begins, places_in-call}
 use Rattle.mc_driver.proofs.SeenByCallLemmas.{crawled_between, juggled_between, limited_between, replied_between, seen_grow}
-use Rattle.mc_driver.proofs.EnteredCallLemmas.{Gains, before_more, entered_still, gains, gains_none}
-use Rattle.mc_driver.proofs.CalledEventLemmas.{Fails, call_event_of-turn, event_for, turns_for-length, in_turn_more, may_again, replied_turns, turns_begun, turns_more, turns_of-call}
-use Rattle.mc_driver.proofs.{CutCallLemmas.command_broke, OnlyCallsLemmas.is_same, StandingCallLemmas.breaks_after, StandingCallLemmas.grow_self, StandingCallLemmas.stand_by}
+use Rattle.mc_driver.proofs.EnteredCallLemmas.{Gains, before_more, entered_still, gains_none}
+use Rattle.mc_driver.proofs.CalledEventLemmas.{call_event_of-turn, event_for, turns_for-length, in_turn_more, may_again, replied_turns, turns_begun, turns_more, turns_of-call}
+use Rattle.mc_driver.proofs.{OnlyCallsLemmas.is_same, StandingCallLemmas.breaks_after, StandingCallLemmas.grow_self, StandingCallLemmas.stand_by}
 use Rattle.mc_driver.proofs.StandingCallLemmas.{stand_rest, stand_more}
 
 -- where a reply was noted, and what stands there
@@ -119,12 +119,18 @@ reply_fits config old new command moment reply by =
       reply_is = sym by.replied.reply_is ∙ may.reply;
     }
 
--- how a call that went wrong leaves what its pass knows: as it was, or with the call in its caller's history, and its beginning in
--- what was seen
-abbrev pub IsCut : Config → PassView → PassView → ScriptCall → ℕ → Type 0
-IsCut config old new made moment =
-    (new ≡ old) ⊎ ((new.calls ≡ old.calls ++ call_event_of made moment ∷ [])
-    × (IsBefore old.turn old.made → BreaksOffAfter (EntersOnly new) config (histories_seen config old.sight) (histories_seen config new.sight) (next_who old) (record { call = made; moment = moment })))
+-- how a call that broke off leaves what its pass knows: with the call in its caller's history, and its beginning in what was seen
+abbrev pub IsBegun : Config → PassView → PassView → ScriptCall → ℕ → Type 0
+IsBegun config old new made moment =
+    (new.calls ≡ old.calls ++ call_event_of made moment ∷ [])
+    × (IsBefore old.turn old.made → BreaksOffAfter (EntersOnly new) config (histories_seen config old.sight) (histories_seen config new.sight) (next_who old) (record { call = made; moment = moment }))
+
+-- however a call ends, its account gained only spans of its turn
+pub call_gains : {T : Type 0} (config : Config) (old new : PassView) (r : Result T Fault) {By : T → Type 0} {Till : Fault → Type 0} → IfOk r By
+    → IfErr r (λ fault. IsUnbegun config old new fault ⊎ Till fault) → ((x : T) → By x → Gains old.turn old.made new.made) → ((fault : Fault) → Till fault → Gains old.turn old.made new.made)
+    → Gains old.turn old.made new.made
+call_gains config old new (Ok x) by cut whole part = whole x by
+call_gains config old new (Err fault) by cut whole part = ⊎_elim (λ early. gains_none old.turn old.made new.made (ap (λ (p : PassView). p.made) early.0)) (λ till. part fault till) cut
 
 module _ (config : Config) (old new : PassView) (same : new.caller ≡ old.caller) (grows : Grows old.sight new.sight) (may : MayCall config old) (gained : Gains old.turn old.made new.made) where
   earlier : (calls : List Exchange) → AreNoted config old calls None → IsBefore old.turn old.made
@@ -216,7 +222,7 @@ module _ (config : Config) (old new : PassView) (same : new.caller ≡ old.calle
       ap (λ (n : ℕ). record { caller = old.caller; turn = n }) turn ∙ ap (λ (k : ℕ). record { caller = k; turn = length calls }) (sym same)
 
   -- a call that went wrong is the last one begun, unless nothing happened
-  breaks_off : (made : ScriptCall) (moment : ℕ) → IsCut config old new made moment → BreaksOff made moment (view_of config old) (view_of config new)
+  breaks_off : (made : ScriptCall) (moment : ℕ) → (new ≡ old) ⊎ IsBegun config old new made moment → BreaksOff made moment (view_of config old) (view_of config new)
   breaks_off made moment (inl is) = record { at = λ calls noted. (None, tt, subst (λ (p : PassView). AreNoted config p calls None) (sym is) noted) }
   breaks_off made moment (inr more) =
       let begun : Begun = record { call = made; moment = moment } in
@@ -257,60 +263,33 @@ module _ (config : Config) (old new : PassView) (same : new.caller ≡ old.calle
 
   -- juggling is noted where it was done
   pub juggled_ok : (class : ClassNo) (moment : ℕ) (r : Result Moves Fault) → OnOk r (new.turn ≡ old.turn + 1) → IsClass (setting_of config) class
-      → OnOk r (new.calls ≡ old.calls ++ juggling_of class moment ∷ []) → Enters (IsOfWalk config class) old.turn new.sight old.made new.made → IfOk r (IsJuggledBy config class old new moment)
+      → IfOk r (IsJuggledBy config class old new moment)
       → IfOk r (λ moves. MakesCalls (Juggles class ∷ []) (Moved moves ∷ []) moment (view_of config old) (view_of config new))
-  juggled_ok class moment (Ok moves) turn is more account by =
-      made_one _ _ moment tt turn (class_adds _ refl more (λ n. refl) (λ before. juggled_between config class old new moment moves is grows before account by))
-  juggled_ok class moment (Err fault) turn is more account by = tt
+  juggled_ok class moment (Ok moves) turn is by =
+      made_one _ _ moment tt turn (class_adds _ refl by.noted (λ n. refl) (λ before. juggled_between config class old new moment moves is grows before by))
+  juggled_ok class moment (Err fault) turn is by = tt
 
   -- and a crawl where it was made
   pub crawled_ok : (class : ClassNo) (moment : ℕ) (r : Result Histogram Fault) → OnOk r (new.turn ≡ old.turn + 1) → IsClass (setting_of config) class
-      → OnOk r (new.calls ≡ old.calls ++ crawling_of class moment ∷ [])
       → IfOk r (IsCrawledBy config class old new moment)
       → IfOk r (λ histogram. MakesCalls (Crawls class ∷ []) (Counted histogram ∷ []) moment (view_of config old) (view_of config new))
-  crawled_ok class moment (Ok histogram) turn is more by =
-      made_one _ _ moment tt turn (class_adds _ refl more (λ n. refl) (λ before. crawled_between config class old new moment histogram is grows before by))
-  crawled_ok class moment (Err fault) turn is more by = tt
+  crawled_ok class moment (Ok histogram) turn is by =
+      made_one _ _ moment tt turn (class_adds _ refl by.noted (λ n. refl) (λ before. crawled_between config class old new moment histogram is grows before by))
+  crawled_ok class moment (Err fault) turn is by = tt
 
   -- and a new limit where it was set
   pub limited_ok : {T : Type 0} (class : ClassNo) (chunks moment : ℕ) (r : Result T Fault) → OnOk r (new.turn ≡ old.turn + 1) → IsClass (setting_of config) class
-      → OnOk r (new.calls ≡ old.calls ++ limits_of class chunks ∷ []) → Enters (λ lock place event. lock ≡ class_lock config class) old.turn new.sight old.made new.made
-      → OnOk r (HasGained config class old.sight new.sight (next_who old) (limited_event (next_who old) chunks ∷ []))
+      → OnOk r (IsLimitedBy config class old new chunks (limited_event (next_who old) chunks ∷ []))
       → OnOk r (MakesCalls (Limits class chunks ∷ []) (Limited ∷ []) moment (view_of config old) (view_of config new))
-  limited_ok class chunks moment (Ok x) turn is more account by =
-      made_one _ _ moment tt turn (class_adds _ refl more (λ n. refl) (λ before. limited_between config class old new chunks moment is grows before account by))
-  limited_ok class chunks moment (Err fault) turn is more account by = tt
+  limited_ok class chunks moment (Ok x) turn is by =
+      made_one _ _ moment tt turn (class_adds _ refl by.noted (λ n. refl) (λ before. limited_between config class old new chunks moment is grows before by))
+  limited_ok class chunks moment (Err fault) turn is by = tt
 
   -- and what went wrong breaks off
-  pub call_failed : {T : Type 0} (made : ScriptCall) (moment : ℕ) (r : Result T Fault) → OnErr r (IsCut config old new made moment)
-      → OnErr r (BreaksOff made moment (view_of config old) (view_of config new))
-  call_failed made moment (Ok x) cut = tt
-  call_failed made moment (Err fault) cut = breaks_off made moment cut
-
--- however a command ends, its account gained only spans of its turn
-pub command_gains : (config : Config) (number : ℕ) (old new : PassView) (command : Command) (moment : ℕ) (r : Result Reply Fault) → IfOk r (IsRepliedBy config number old new command moment)
-    → IfErr r (Fails config number old new command moment) → Gains old.turn old.made new.made
-command_gains config stripe old new command moment (Ok reply) by fails = gains _ old new by.account.enters
-command_gains config stripe old new command moment (Err fault) by fails = ⊎_elim
-    (λ early. gains_none old.turn old.made new.made (ap (λ (p : PassView). p.made) early.0))
-    (λ cut. gains _ old new cut.account)
-    fails
-
--- and so with a crawl
-pub crawl_gains : (config : Config) (class : ClassNo) (old new : PassView) (moment : ℕ) (r : Result Histogram Fault) → IfOk r (IsCrawledBy config class old new moment)
-    → OnErr r ((new ≡ old) ⊎ IsCrawledTill config class old new moment) → Gains old.turn old.made new.made
-crawl_gains config class old new moment (Ok histogram) by cut = gains _ old new by.account
-crawl_gains config class old new moment (Err fault) by cut = ⊎_elim
-    (λ same. gains_none old.turn old.made new.made (ap (λ (p : PassView). p.made) same))
-    (λ till. gains _ old new till.account)
-    cut
-
--- a command that failed was broken off, if it was begun
-pub command_cut : (config : Config) (old new : PassView) (command : Command) (moment : ℕ) (r : Result Reply Fault) → MayCall config old → Grows old.sight new.sight
-    → IfErr r (Fails config (stripe_number config.stripes command) old new command moment) → OnErr r (IsCut config old new (Asks command) moment)
-command_cut config old new command moment (Ok reply) may grows fails = tt
-command_cut config old new command moment (Err fault) may grows fails =
-    ⊎_elim (λ early. inl early.0) (λ cut. inr (cut.noted, λ before. command_broke config old new command moment fault may.some grows before cut)) fails
+  pub call_failed : {T : Type 0} (made : ScriptCall) (moment : ℕ) (r : Result T Fault) {Till : Fault → Type 0} → IfErr r (λ fault. IsUnbegun config old new fault ⊎ Till fault)
+      → ((fault : Fault) → Till fault → IsBegun config old new made moment) → OnErr r (BreaksOff made moment (view_of config old) (view_of config new))
+  call_failed made moment (Ok x) cut begun = tt
+  call_failed made moment (Err fault) cut begun = breaks_off made moment (⊎_elim (λ early. inl early.0) (λ till. inr (begun fault till)) cut)
 
 -- a call leaves its caller, which may call again after it
 pub goes_on : {T : Type 0} (config : Config) (old new : PassView) (r : Result T Fault) → MayCall config old → new.caller ≡ old.caller → new.turn ≡ length (turns_of new.calls)

@@ -19,12 +19,16 @@ pub record AreKeepersDone (scripts : ℕ) (ended : List Outcome) : Type 0 where
   pub crawler : (outcome : Outcome) → slice_index_or ended (scripts + 1) outcome ≡ outcomes.Done
 
 module _ {E : Type 0} (gave : E → E → List ℕ → Type 0) (at_end : E → Type 0) (taken : E → List ℕ) (reads writes : E → ℕ) where
-  -- what holds after the script of this caller: its bytes, its calls in the histories, and its failures, by its outcome
+  -- what holds after the script of this caller, by its outcome: its bytes, the texts that were taken, its calls in the histories, and its
+  -- failures. Each call comes after all that the script had seen by then, and the caller has no other event.
   pub record IsScriptLeft (config : Config) (histories : Histories) (caller : ℕ) (ends left : E) (outcome : Outcome) : Type 0 where
     pub leaves : HasLeft gave at_end taken outcome (limits_of config) ends left (AreItsCalls config caller histories) caller
     pub counted : AreCounted outcome (reads ends) (reads left) (writes ends) (writes left)
 
-  -- what holds after a run of scripts, with upkeep at these moments, on a store of this configuration
+  -- what holds after a run of scripts, with upkeep at these moments, on a store of this configuration. Maintainer and crawler made the
+  -- calls at these moments, in turn, and no others. Without moments both are done. After `HistoryFull` a history has fewer than two
+  -- places left, or the caller has made `max_events` calls. If a caller is done, each of its events has its call, at the same moment.
+  -- Nobody else made an event, and the store is sound.
   pub record IsRunDone (config : Config) (moments : List ℕ) (scripts ends : List E) (ended : List Outcome) (final : FinalView) : Type 0 where
     pub each : (i : ℕ) (d : E) (outcome : Outcome) → i < length scripts
         → IsScriptLeft config (histories_left final) i (slice_index_or scripts i d) (slice_index_or ends i d) (slice_index_or ended i outcome)

@@ -169,8 +169,7 @@ fn run_input<R: Threads + Wait + Sync, L: Ledger + Send + Sync, W: Write, E: Wri
     errors: &mut E,
 ) -> u8
     requires blank { (blank.name ≡ L.name) × (blank.parts ≡ L.parts) × (62 ≤ blank.parts) }
-    requires sound { IsSound plan.config }
-    requires early { All (λ moment. moment ≤ 2 ^ 62) plan.upkeep }
+    requires plan { IsSound plan.config × All (λ moment. moment ≤ 2 ^ 62) plan.upkeep }
     ensures done { result ≡ 0 → IsInputAnswered false plan.config plan.upkeep (flat_map (λ v. v.items) input.items) (W.contents writer.old)
         (W.contents writer.new) }
     ensures broken { result ≡ 1 → Keeps (W.contents writer.old) (W.contents writer.new)

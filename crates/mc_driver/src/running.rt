@@ -1,14 +1,10 @@
 //! Runs scripts at once on one store.
-ghost use Rattle.std.specs.Prelude.{◌≡◌, ◌≢◌, ◌+◌, ◌<◌, ◌≤◌, ◌^◌, ℕ, [], IfOk, IfErr, Some, None, length, slice_index_or, slice_get};
+ghost use Rattle.std.specs.Prelude.{◌≡◌, ◌≢◌, ◌+◌, ◌<◌, ◌≤◌, ◌^◌, ℕ, IfOk, IfErr, Some, None, length, slice_get};
 ghost use Rattle.std.specs.List.{All};
 ghost use Rattle.mc_item.specs.Config.{fault_of, IsBounded};
-ghost use Rattle.mc_script.specs.Run.{AreCounted, HasLeft};
-ghost use Rattle.mc_script.specs.declared.{outcome.Outcome.Outcome, upkeep.Keeper.TheVariants.Crawler, upkeep.Keeper.TheVariants.Maintainer};
-ghost use Rattle.mc_script.specs.declared.outcome.Outcome.TheVariants as outcomes;
 ghost use Rattle.mc_store.specs.{Finals.AreClasses, Finals.AreStripes, Opening.AreParts, Passes.PassView};
-ghost use Rattle.mc_driver.specs.Called.{AreByCallers, AreItsCalls, AreWholeTurns, HasNoPlace, IsCompared};
-ghost use Rattle.mc_driver.specs.{Jobs.MayRunAll, Left.AreKeepersDone, Left.IsKeptUp, Left.IsRunDone};
-ghost use Rattle.mc_driver.specs.Run.{IsAccepted, IsRefused, IsStore, callers_at_work, histories_left, limits_of, with_callers};
+ghost use Rattle.mc_driver.specs.{Called.IsCompared, Jobs.MayRunAll, Left.IsRunDone};
+ghost use Rattle.mc_driver.specs.Run.{IsAccepted, IsRefused, limits_of, with_callers};
 ghost use Rattle.mc_driver.specs.declared.fault.RunFault.TheVariants as faults;
 
 use crate::fault::RunFault;
@@ -209,49 +205,11 @@ pub fn run_scripts<E: Ends + Send, R: Threads + Wait + Sync>(
 ) -> Result<Run<E>, RunFault>
     requires early { All (λ moment. moment ≤ 2 ^ 62) upkeep.now }
     requires asks { MayRunAll E.gave E.taken E.reads E.writes E.over E.may_ask (limits_of config) scripts.items }
-
-    // Which runs are accepted, and why others are refused.
     ensures refused { IfErr result (λ e. IsRefused e (length scripts.items) config) }
     ensures accepted { IfOk result (λ _. IsAccepted (length scripts.items) config) }
-
-    // What each script leaves: the bytes that came, what was taken of its texts, its calls in the histories, and which side
-    // failed. Each call is there after all that the script had seen by then. The script's own history has just these calls, with
-    // the one that broke off if one did, and each of its events on any stripe or class belongs to one of them.
-    ensures leaves { IfOk result (λ run. (i : ℕ) (d : E) (outcome : Outcome) → i < length scripts.items
-        → HasLeft E.gave E.ended E.taken (slice_index_or run.outcomes.items i outcome) (limits_of config)
-        (slice_index_or scripts.items i d) (slice_index_or run.ends.items i d)
-        (AreItsCalls (with_callers (length scripts.items) config) i (histories_left run.ledger)) i) }
-    ensures counted { IfOk result (λ run. (i : ℕ) (d : E) (outcome : Outcome) → i < length scripts.items
-        → AreCounted (slice_index_or run.outcomes.items i outcome)
-        (E.reads (slice_index_or scripts.items i d)) (E.reads (slice_index_or run.ends.items i d))
-        (E.writes (slice_index_or scripts.items i d)) (E.writes (slice_index_or run.ends.items i d))) }
-
-    // What upkeep leaves: the calls of maintainer and crawler at these moments, in turn, and no others, as for a script. Without
-    // moments both are done.
-    ensures maintained { IfOk result (λ run. (outcome : Outcome)
-        → IsKeptUp Maintainer (with_callers (length scripts.items) config) upkeep.now (length scripts.items)
-        (slice_index_or run.outcomes.items (length scripts.items) outcome) (histories_left run.ledger)) }
-    ensures crawled { IfOk result (λ run. (outcome : Outcome)
-        → IsKeptUp Crawler (with_callers (length scripts.items) config) upkeep.now (length scripts.items + 1)
-        (slice_index_or run.outcomes.items (length scripts.items + 1) outcome) (histories_left run.ledger)) }
-    ensures idle { IfOk result (λ run. upkeep.now ≡ [] → AreKeepersDone (length scripts.items) run.outcomes.items) }
-
-    // What holds of every caller, maintainer and crawler too. After `HistoryFull` some history has fewer than two places
-    // left, or the caller has made `max_events` calls. If the caller is done, each of its events on any stripe has its call
-    // in the histories, at the same moment. Nobody else made an event.
-    ensures full { IfOk result (λ run. (i : ℕ) (outcome : Outcome) → i < length scripts.items + 2
-        → slice_index_or run.outcomes.items i outcome ≡ outcomes.HistoryFull
-        → HasNoPlace (with_callers (length scripts.items) config) i (histories_left run.ledger)) }
-    ensures whole { IfOk result (λ run. (i : ℕ) (outcome : Outcome) → i < length scripts.items + 2
-        → slice_index_or run.outcomes.items i outcome ≡ outcomes.Done
-        → AreWholeTurns (with_callers (length scripts.items) config) i (histories_left run.ledger)) }
-    ensures by { IfOk result (λ run. AreByCallers (with_callers (length scripts.items) config) (callers_at_work (length scripts.items) upkeep.now)
-        (histories_left run.ledger)) }
-
-    // What is left: an outcome for each caller, the ends of each script, and the store.
-    ensures outcomes { IfOk result (λ run. length run.outcomes.items ≡ length scripts.items + 2) }
-    ensures ends { IfOk result (λ run. length run.ends.items ≡ length scripts.items) }
-    ensures store { IfOk result (λ run. IsStore (with_callers (length scripts.items) config) run.ledger) }
+    // What each script, maintainer and crawler leave, and the store: the fields of `IsRunDone`.
+    ensures done { IfOk result (λ run. IsRunDone E.gave E.ended E.taken E.reads E.writes (with_callers (length scripts.items) config) upkeep.now scripts.items
+        run.ends.items run.outcomes.items run.ledger) }
 {
     match run_ends(Host { rt, alloc, seed }, config, scripts, upkeep) {
         Ok(run) => Ok(run),

@@ -3,7 +3,8 @@ use Rattle.std.proofs.Common.{◌≡◌, ◌+◌, ℕ, List, [], ◌∷◌, ◌+
 use Rattle.std.specs.Prelude.{◌<◌, ◌≤◌, IsSomeAnd, MatchResult, OnErr, OnOk}
 use mathlib.Core.List.{IsPrefix}
 use Rattle.mc_item.specs.declared.{class_event.ClassEvent.ClassEvent, config.Config.Config, counts.Histogram.Histogram, event.Event.Event}
-use Rattle.mc_item.specs.declared.{event.Event.TheVariants.Call, event.Event.TheVariants.Class, event.Event.TheVariants.Stripe, fault.Fault.Fault}
+use Rattle.mc_item.specs.declared.{event.Event.TheVariants.Call, event.Event.TheVariants.Class, event.Event.TheVariants.Stripe, fault.Fault.Fault, fault.Fault.TheVariants.HistoryFull}
+use Rattle.mc_store.specs.Serving.{IsShortFor}
 use Rattle.mc_item.specs.declared.{item.ClassNo.ClassNo, item.Link.Link, item.Who.Who, stripe_event.StripeEvent.StripeEvent}
 use Rattle.mc_item.specs.Counts.{no_counts}
 use Rattle.mc_board.specs.Histories.{Grows, list_at}
@@ -332,8 +333,9 @@ so_far_more config class a b c who moment links done more link stretch h h_new s
 -- all of them, and so the class was crawled
 pub so_far_all : (config : Config) (class : ClassNo) (before after : PassView) (moment : ℕ) (links done : List Link) (h : Histogram)
     → CountsSoFar config class before after (next_who before) moment links done h → done ≡ links → h.seen ≡ length links → IsBalanced h
-    → ShowsReclaims config class before.sight after.sight (next_who before) moment 0 h.reclaimed → IsSeenSound config class after.sight → IsCrawledBy config class before after moment h
-so_far_all config class before after moment links done h all is count balanced reclaims sound = record {
+    → ShowsReclaims config class before.sight after.sight (next_who before) moment 0 h.reclaimed → IsSeenSound config class after.sight
+    → after.calls ≡ before.calls ++ crawling_of class moment ∷ [] → IsCrawledBy config class before after moment h
+so_far_all config class before after moment links done h all is count balanced reclaims sound noted = record {
   snapshot = record {
     history = all.snapshot.history;
     begins = all.snapshot.begins;
@@ -352,13 +354,14 @@ so_far_all config class before after moment links done h all is count balanced r
       (next_who before) moment l all.stretches no_counts h)
       (is ∙ sym all.links_are) all.counted;
   account = all.entered;
+  noted = noted;
 }
 
 -- or a fault ended it behind some of them
 pub so_far_till : (config : Config) (class : ClassNo) (a b c : PassView) (who : Who) (moment : ℕ) (links done : List Link) (h : Histogram) → CountsSoFar config class a b who moment links done h
     → who ≡ next_who a → IsPrefix done links → Grows b.sight c.sight → Enters (IsOfStretches config class []) who.turn c.sight b.made c.made → c.calls ≡ a.calls ++ crawling_of class moment ∷ []
-    → IsCrawledTill config class a c moment
-so_far_till config class a b c who moment links done h some is begins grows last noted =
+    → (fault : Fault) → (fault ≡ HistoryFull → IsShortFor config class c.sight) → IsCrawledTill config class a c moment fault
+so_far_till config class a b c who moment links done h some is begins grows last noted fault full =
     let lock = class_lock config class in
     let Suits = IsOfStretches config class some.stretches in
     record {
@@ -378,12 +381,14 @@ so_far_till config class a b c who moment links done h some is begins grows last
           (enters_both Suits who.turn {mid = b.sight} {after = c.sight} a.made b.made c.made some.entered grows
           (enters_more (IsOfStretches config class []) Suits who.turn {after = c.sight} b.made c.made (in_none config class some.stretches) last));
       noted = noted;
+      full = full;
     }
 
 -- or before the first
 pub till_none : (config : Config) (class : ClassNo) (before after : PassView) (moment : ℕ) → IsSeenSound config class after.sight → Grows before.sight after.sight → after.made ≡ before.made
-    → after.calls ≡ before.calls ++ crawling_of class moment ∷ [] → IsCrawledTill config class before after moment
-till_none config class before after moment sound grows made noted =
+    → after.calls ≡ before.calls ++ crawling_of class moment ∷ [] → (fault : Fault) → (fault ≡ HistoryFull → IsShortFor config class after.sight)
+    → IsCrawledTill config class before after moment fault
+till_none config class before after moment sound grows made noted fault full =
     let lock = class_lock config class in
     let whole = sound.history in
     record {
@@ -398,4 +403,5 @@ till_none config class before after moment sound grows made noted =
       counted = (refl, refl);
       account = enters_same (IsOfStretches config class []) before.turn before.made after.made made;
       noted = noted;
+      full = full;
     }

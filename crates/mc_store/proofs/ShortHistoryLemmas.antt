@@ -1,5 +1,5 @@
 -- Short histories; and small laws of a step: which fault was answered, what a stripe was made with, where a refusal stands.
-use Rattle.std.proofs.Common.{Result, Ok, Err, refl, sym, ap, ◌∙◌, inl, inr, arith, suc}
+use Rattle.std.proofs.Common.{Result, Ok, Err, refl, subst, sym, ap, ◌∙◌, inl, inr, arith, suc}
 use Rattle.std.specs.Prelude.{ℕ, ◌≡◌, ◌<◌, ◌+◌, ◌⊎◌, ◌++◌, List, [], ◌∷◌, Some, length, IfErr, IfOk, IsErrAnd, MatchResult, OnErr, slice_get}
 use Rattle.mc_item.specs.declared.{answer.Site.Site, config.Config.Config, fault.Fault.Fault, fault.Fault.TheVariants.HistoryFull, item.ClassNo.ClassNo, item.Who.Who}
 use Rattle.mc_item.specs.declared.{class_event.ClassEvent.ClassEvent, event.Event.Event}
@@ -53,6 +53,21 @@ match_fault (Err f) P F it = it
 pub if_err_any : {T : Type 0} (r : Result T Fault) (F : Fault → Type 0) → ((e : Fault) → F e) → IfErr r F
 if_err_any (Ok x) F it = tt
 if_err_any (Err f) F it = it f
+
+-- what is told of an answer in two clauses
+pub if_ok_both : {T : Type 0} (r : Result T Fault) (P Q : T → Type 0) → IfOk r P → IfOk r Q → IfOk r (λ x. P x × Q x)
+if_ok_both (Ok x) P Q p q = (p, q)
+if_ok_both (Err f) P Q p q = tt
+
+-- what holds of an error, by what is told of it
+pub if_err_by : {T : Type 0} (r : Result T Fault) (P F : Fault → Type 0) → ((e : Fault) → r ≡ Err e → P e → F e) → IfErr r P → IfErr r F
+if_err_by (Ok x) P F by it = tt
+if_err_by (Err f) P F by it = by f refl it
+
+-- what holds of one error holds of the answer that handed it on
+pub if_err_of : {T : Type 0} (f : Fault) (r : Result T Fault) (F : Fault → Type 0) → IsErrAnd r (λ x. x ≡ f) → F f → IfErr r F
+if_err_of f (Ok x) F gives it = absurd gives
+if_err_of f (Err e) F gives it = subst F (sym gives) it
 
 -- a stripe that was made with a configuration is still, whatever it gained
 pub stripe_made : (config : Config) (s s_new : Stripe) → KeepsSite s s_new → IsStripeOf config s → IsStripeOf config s_new

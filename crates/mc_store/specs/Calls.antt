@@ -1,5 +1,5 @@
 -- What a call on a store leaves, by what its pass had seen before and has seen after (own).
-use Rattle.std.specs.Prelude.{◌≡◌, ◌++◌, ◌⊎◌, ℕ, List, [], ◌∷◌, IfSome}
+use Rattle.std.specs.Prelude.{◌≡◌, ◌++◌, ◌⊎◌, ◌≤◌, ℕ, List, [], ◌∷◌, IfSome}
 use mathlib.Core.List.{IsPrefix}
 use Rattle.mc_item.specs.declared.{call_event.CallEvent.CallEvent, class_event.ClassEvent.ClassEvent, command.Command.Command, config.Config.Config}
 use Rattle.mc_item.specs.declared.{
@@ -20,6 +20,7 @@ use Rattle.mc_pull.specs.declared.looking.Answer.{Answer}
 use Rattle.mc_store.specs.{
   Accounts.Enters,
   Accounts.IsOfCommand,
+  Accounts.IsOfWalk,
   Accounts.Stretch,
   Commands.IsAnswered,
   Commands.IsCut,
@@ -27,11 +28,14 @@ use Rattle.mc_store.specs.{
   Callers.answered_at,
   Callers.asked_for,
   Callers.juggling_of,
+  Callers.limits_of,
   Earned.IsEarned,
   Searches.EntersOnce,
   Searches.IsSearchUpTo,
   Full.IsFullFor,
+  Full.LacksPlaces,
   Locked.class_lock,
+  Serving.IsShortFor,
 }
 use Rattle.mc_store.specs.Locked.{setting_of}
 use Rattle.mc_store.specs.Hits.{IsAdvancedBy, IsAdvancedTill, queue_of}
@@ -67,6 +71,10 @@ pub record IsSeenGrow (config : Config) (number : ℕ) (before after : Sight) (s
   pub seen : IsPrefix (list_at before.seen number) (stripe_told s.history)
   pub now : list_at after.seen number ≡ stripe_told s_new.history
   pub sound : StripeKeeps (setting_of config) number s_new.history (classes_seen config.stripes (list_at after.seen))
+
+-- a call was refused before it began: its pass is as it was, and `HistoryFull` means that the pass has had all its turns
+abbrev pub IsUnbegun : Config → (before after : PassView) → Fault → Type 0
+IsUnbegun config before after fault = (after ≡ before) × (fault ≡ HistoryFull → config.max_events ≤ before.turn)
 
 -- a command was answered with this reply at one point of its stripe's growing history, after all that the pass had seen and what
 -- other calls made; its caller's history gains two events, the call and the place of the answer, and its account only what the
@@ -124,15 +132,18 @@ IsUpkeepCut config c turn hands hands_new history_new fault =
     ⊎ ((advanced : List ClassEvent) × IsAdvancedBy (queue_of c.number) turn hands hands_new c.history advanced
     × IsJuggleCut (rounds c turn.who turn.moment config) fault advanced history_new)
 
--- a class was juggled, after all that the pass had seen of it and what other calls made
+-- a class was juggled, after all that the pass had seen of it and what other calls made; its caller's history gains the call, and
+-- its account only events of the class and of stripes
 pub record IsJuggledBy (config : Config) (class : ClassNo) (before after : PassView) (moment : ℕ) (moves : Moves) : Type 0 where
   pub old : ClassView
   pub history_new : List ClassEvent
   pub grew : IsSeenGrowOf config class before.sight after.sight old history_new
   pub first : HasNoneMadeBy (next_who before) old.history
   pub upkept : IsUpkept config old (record { who = next_who before; moment = moment }) before.hands after.hands history_new moves
+  pub noted : after.calls ≡ before.calls ++ juggling_of class moment ∷ []
+  pub account : Enters (IsOfWalk config class) before.turn after.sight before.made after.made
 
--- the same, but a fault ended it, and the call was noted
+-- the same, but a fault ended it; `HistoryFull` means that the history of the class or of a stripe has fewer than two places left
 pub record IsJuggledTill (config : Config) (class : ClassNo) (before after : PassView) (moment : ℕ) (fault : Fault) : Type 0 where
   pub old : ClassView
   pub history_new : List ClassEvent
@@ -140,9 +151,23 @@ pub record IsJuggledTill (config : Config) (class : ClassNo) (before after : Pas
   pub first : HasNoneMadeBy (next_who before) old.history
   pub cut : IsUpkeepCut config old (record { who = next_who before; moment = moment }) before.hands after.hands history_new fault
   pub noted : after.calls ≡ before.calls ++ juggling_of class moment ∷ []
+  pub account : Enters (IsOfWalk config class) before.turn after.sight before.made after.made
+  pub full : fault ≡ HistoryFull → IsShortFor config class after.sight
 
 -- a call gave a class's history these events and no other, after all that the pass had seen of the class and what other calls made
 pub record HasGained (config : Config) (class : ClassNo) (before after : Sight) (who : Who) (events : List ClassEvent) : Type 0 where
   pub old : ClassView
   pub grew : IsSeenGrowOf config class before after old (old.history ++ events)
   pub first : HasNoneMadeBy who old.history
+
+-- a call set a class's limit: the class's history gained these events, the caller's history the call, and the account only events
+-- of the class
+pub record IsLimitedBy (config : Config) (class : ClassNo) (before after : PassView) (chunks : ℕ) (events : List ClassEvent) : Type 0 where
+  pub gained : HasGained config class before.sight after.sight (next_who before) events
+  pub noted : after.calls ≡ before.calls ++ limits_of class chunks ∷ []
+  pub account : Enters (λ lock place event. lock ≡ class_lock config class) before.turn after.sight before.made after.made
+
+-- the same, but a fault ended it before its event; `HistoryFull` means that the class's history has no place left
+pub record IsLimitedTill (config : Config) (class : ClassNo) (before after : PassView) (chunks : ℕ) (fault : Fault) : Type 0 where
+  pub limited : IsLimitedBy config class before after chunks []
+  pub full : fault ≡ HistoryFull → LacksPlaces config after.sight class 1

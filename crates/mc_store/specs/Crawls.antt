@@ -2,6 +2,7 @@
 use Rattle.std.specs.Prelude.{◌≡◌, ◌+◌, ◌++◌, ◌⊎◌, ℕ, List, [], ◌∷◌}
 use mathlib.Core.List.{IsPrefix}
 use Rattle.mc_item.specs.declared.{class_event.ClassEvent.ClassEvent, config.Config.Config, counts.Histogram.Histogram, event.Event.Event}
+use Rattle.mc_item.specs.declared.{fault.Fault.Fault, fault.Fault.TheVariants.HistoryFull}
 use Rattle.mc_item.specs.declared.{event.Event.TheVariants.Call, event.Event.TheVariants.Class, event.Event.TheVariants.Stripe, item.ClassNo.ClassNo}
 use Rattle.mc_item.specs.declared.{item.Link.Link, item.Who.Who, stripe_event.StripeEvent.StripeEvent}
 use Rattle.mc_item.specs.Counts.{no_counts}
@@ -17,7 +18,8 @@ use Rattle.mc_crawl.specs.declared.kind.Kind.{Kind}
 use Rattle.mc_stripe.specs.declared.trying.Turn.{Turn}
 use Rattle.mc_store.specs.{Accounts.Enters, Accounts.IsOfStretches, Accounts.Stretch, Accounts.stretch_of}
 use Rattle.mc_store.specs.{Callers.crawling_of, Locked.class_lock, Locked.setting_of, Passes.HasCalled}
-use Rattle.mc_store.specs.{Passes.PassView, Passes.caller_of, Passes.next_who, Reached.IsStateBetween, Reached.seen_stripes, Sides.class_told}
+use Rattle.mc_store.specs.{Passes.PassView, Passes.caller_of, Passes.next_who, Reached.IsStateBetween, Reached.seen_stripes}
+use Rattle.mc_store.specs.{Serving.IsShortFor, Sides.class_told}
 
 -- at least so many of these events are a `Reclaimed` by this call, at this moment
 abbrev pub HasReclaims : Who → ℕ → ℕ → List Event → Type 0
@@ -105,7 +107,8 @@ AreLinksCounted config class older newer seen seen_new who moment (link ∷ link
 
 -- a class was crawled: the links that it had at one point were counted one after another, starting from no counts, each as one
 -- kind, by a state of its stripe after all that the pass had seen of it, which the pass has seen since; the pass has seen the events
--- of what was reclaimed, and the class's whole history, and the call made no events of the class but those of these links
+-- of what was reclaimed, and the class's whole history; its caller's history gains the call, and its account no events of the class
+-- but those of these links
 pub record IsCrawledBy (config : Config) (class : ClassNo) (before after : PassView) (moment : ℕ) (histogram : Histogram) : Type 0 where
   pub snapshot : IsSnapshot config class before.sight after.sight histogram.seen
   pub balanced : IsBalanced histogram
@@ -115,9 +118,11 @@ pub record IsCrawledBy (config : Config) (class : ClassNo) (before after : PassV
   pub counted : AreLinksCounted config class (seen_stripes before.sight) (seen_stripes after.sight) (class_told snapshot.history)
       (list_at after.sight.seen (class_lock config class)) (next_who before) moment snapshot.links stretches no_counts histogram
   pub account : Enters (IsOfStretches config class stretches) before.turn after.sight before.made after.made
+  pub noted : after.calls ≡ before.calls ++ crawling_of class moment ∷ []
 
--- the same, but a fault ended it: some of the links were counted, and the call was noted
-pub record IsCrawledTill (config : Config) (class : ClassNo) (before after : PassView) (moment : ℕ) : Type 0 where
+-- the same, but a fault ended it when some of the links were counted; `HistoryFull` means that the history of the class or of a stripe
+-- has fewer than two places left
+pub record IsCrawledTill (config : Config) (class : ClassNo) (before after : PassView) (moment : ℕ) (fault : Fault) : Type 0 where
   pub history : List ClassEvent
   pub begins : IsPrefix (list_at before.sight.seen (class_lock config class)) (class_told history)
   pub links : List Link
@@ -130,3 +135,4 @@ pub record IsCrawledTill (config : Config) (class : ClassNo) (before after : Pas
       stretches no_counts histogram
   pub account : Enters (IsOfStretches config class stretches) before.turn after.sight before.made after.made
   pub noted : after.calls ≡ before.calls ++ crawling_of class moment ∷ []
+  pub full : fault ≡ HistoryFull → IsShortFor config class after.sight

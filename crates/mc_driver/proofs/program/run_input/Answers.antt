@@ -20,11 +20,14 @@ returns-clause-done g c = λ zero.
     }
 
 pub run_cut-requires-clause-bounded : goal.run_cut-requires-clause-bounded
-run_cut-requires-clause-bounded g c κs within = bounded c.args.plan.config c.requires.sound
+run_cut-requires-clause-bounded g c κs within = bounded c.args.plan.config c.requires.plan.0
+
+pub run_cut-requires-clause-early : goal.run_cut-requires-clause-early
+run_cut-requires-clause-early g c κs within = c.requires.plan.1
 
 pub returns-in-Err-clause-refused : goal.returns-in-Err-clause-refused
 returns-in-Err-clause-refused g c = λ two.
-    unrun_for_number c.in-Err.fault c.args.plan.config (flat_map (λ v. v.items) c.args.input.items) c.requires.sound
+    unrun_for_number c.in-Err.fault c.args.plan.config (flat_map (λ v. v.items) c.args.input.items) c.requires.plan.0
     (λ memory. omega (arith, two, c.say_fault.ensures.memory memory)) c.in-Err.ensures.err
 
 pub returns-clause-broken : goal.returns-clause-broken

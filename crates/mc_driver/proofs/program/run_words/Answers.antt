@@ -10,11 +10,8 @@ use Rattle.mc_driver.specs.Input.{IsInputAnswered}
 use Rattle.mc_driver.proofs.StatusLemmas.{mistaken}
 use Rattle.mc_driver.proofs.program.run_words.Goals as goal
 
-pub run_input-requires-clause-sound : goal.run_input-requires-clause-sound
-run_input-requires-clause-sound g c = λ lifetimes met. c.in-Ok.ensures.config
-
-pub run_input-requires-clause-early : goal.run_input-requires-clause-early
-run_input-requires-clause-early g c = λ lifetimes met. moments_early _ c.in-Ok.plan.upkeep c.in-Ok.ensures.asked.2.moments
+pub run_input-requires-clause-plan : goal.run_input-requires-clause-plan
+run_input-requires-clause-plan g c = λ lifetimes met. (c.in-Ok.ensures.config, moments_early _ c.in-Ok.plan.upkeep c.in-Ok.ensures.asked.2.moments)
 
 pub run_conversation-requires-clause-early : goal.run_conversation-requires-clause-early
 run_conversation-requires-clause-early g c = λ lifetimes met. moments_early _ c.in-Ok.plan.upkeep c.in-Ok.ensures.asked.2.moments

@@ -4,8 +4,8 @@ use Rattle.mc_item.specs.declared.config.Config.{Config}
 use Rattle.mc_segment.specs.ClassState.{ClassView}
 use Rattle.mc_store.specs.Reached.{seen_stripes}
 use Rattle.mc_store.specs.{Crawls.CountsOne, Callers.crawling_of, Locked.HasBegunAs, Locked.IsLockedClass, Serving.class_side, Sides.ClassSide}
-use Rattle.mc_store.proofs.{CallerLemmas.begun_as_sees, CrawledLemmas.match_on, CrawledLemmas.on_ok_more, GateLemmas.stretch_under, OwnEventLemmas.gains_crawled, OwnEventLemmas.locked_gains}
-use Rattle.mc_store.proofs.OwnCallLemmas.{may_try_whole}
+use Rattle.mc_store.proofs.{CallerLemmas.begun_as_sees, CrawledLemmas.on_ok_more, GateLemmas.stretch_under, OwnEventLemmas.gains_crawled, OwnEventLemmas.locked_gains}
+use Rattle.mc_store.proofs.{OwnCallLemmas.may_try_whole, ShortHistoryLemmas.match_fault, ShortHistoryLemmas.match_ok}
 use Rattle.mc_store.proofs.crawling.crawl_under.Goals as goal
 
 pub crawl-requires-clause-gate : goal.crawl-requires-clause-gate
@@ -27,8 +27,9 @@ invariant_of-class g c =
     let old : ClassSide = class_side c.side.inside.owner c.side.inside.seen c.side.inside.state in
     let new : ClassSide = class_side made.new.self.owner.now made.new.self.seen.now made.new.class in
     let One : Type 0 = CountsOne config (seen_stripes old.sight) (seen_stripes new.sight) c.side.inside.state new.class turn c.args.link c.args.histogram.now made.new.histogram in
-    let reclaims = on_ok_more made.result _ _ (λ (one : One). one.reclaims) made.ensures.counted in
-    let made_so = gains_crawled old.class.number turn.who turn.moment old.class.history new.class.history _ _ made.result reclaims made.ensures.err in
+    let Stays : Type 0 = new.class.history ≡ old.class.history in
+    let reclaims = on_ok_more made.result _ _ (λ (one : One). one.reclaims) (match_ok made.result (λ done. One) (λ fault. Stays) made.ensures.counted) in
+    let made_so = gains_crawled old.class.number turn.who turn.moment old.class.history new.class.history _ _ made.result reclaims (match_fault made.result (λ done. One) (λ fault. Stays) made.ensures.counted) in
     let call = crawling_of old.class.number turn.moment in
     let begun = subst (λ (x : ClassSide). HasBegunAs config x.sight turn.who turn.moment (crawling_of x.class.number turn.moment)) (sym (c.side.view_is ∙ c.class.view_is)) c.requires.begun in
     locked_gains table config old new turn.who turn.moment call (subst (IsLockedClass table config) (sym c.side.view_is) c.class.invariant)
@@ -42,7 +43,7 @@ returns-clause-counted g c =
     let Counts : ClassSide → Type 0 = λ x. CountsOne g.N.Named.config (seen_stripes x.sight) (seen_stripes made.new.self.seen.now.sight) x.class made.new.class c.args.call.turn c.args.link
     c.args.histogram.now made.new.histogram in
     subst (λ (x : ClassSide). MatchResult made.result (λ done. Counts x) (λ fault. made.new.class.history ≡ x.class.history)) (c.side.view_is ∙ c.class.view_is)
-    (match_on made.result (Counts old) (made.new.class.history ≡ old.class.history) made.ensures.counted made.ensures.err)
+    made.ensures.counted
 
 pub returns-clause-still : goal.returns-clause-still
 returns-clause-still g c =

@@ -231,7 +231,7 @@ try_home-requires-in-Room-clause-refused g c =
     let here = subst (λ (h : List ClassEvent). HasGivenUp config mine c.try_home.new.home.class.number turn.who turn.moment key h) (sym (full g at).history_is)
     (subst (λ (n : ClassNo). HasGivenUp config mine n turn.who turn.moment key c.search.new.home.class.history) (sym (full g at).number_is) given_up) in
     subst (λ (t : Site). IsEarnedAt config (record { 0 = t.stripe }) lent.number turn.who turn.moment key c.in_ok-place-in-Room.place lent.history) (sym (site_here g at).site)
-    (earned_now config mine turn key c.try_home.new.home.class lent c.in_ok-place-in-Room.place c.in_ok-place-in-Room.ensures.refused c.in_ok-place-in-Room.ensures.place here)
+    (earned_now config mine turn key c.try_home.new.home.class lent c.in_ok-place-in-Room.place c.in_ok-place-in-Room.ensures.refused.1 c.in_ok-place-in-Room.ensures.refused.0 here)
 
 pub try_home-requires-in-Room-clause-called : goal.try_home-requires-in-Room-clause-called
 try_home-requires-in-Room-clause-called g c =
@@ -249,7 +249,7 @@ try_home-requires-in-Room-clause-called g c =
 pub returns-in-Made-2 : goal.returns-in-Made-2
 returns-in-Made-2 g c =
     let at = (goal.at.returns-in-Made-2 g c).After-refuse in
-    let made = c.in_ok-place-in-Room.ensures.refused in
+    let made = c.in_ok-place-in-Room.ensures.refused.1 in
     let end = c.try_home-in-Room.new.own in
     ends_made g.N.Named.config c.args.task.command.now c.args.task.turn c.args.own.now c.refuse.new.own c.requires.wants.suffice.alive (searched_here g at) (site_here g at)
     (stretch_of c.args.home.now.class c.refuse.new.lent.class) end c.args.caller.now c.refuse.new.caller c.try_home-in-Room.new.caller
@@ -259,7 +259,7 @@ returns-in-Made-2 g c =
 
 pub returns-in_err-reply-in-Room : goal.returns-in_err-reply-in-Room
 returns-in_err-reply-in-Room g c =
-    ends_again g (goal.at.returns-in_err-reply-in-Room g c).After-refuse c.in_ok-place-in-Room.ensures.refused c.try_home-in-Room.new.own c.try_home-in-Room.ensures.sees
+    ends_again g (goal.at.returns-in_err-reply-in-Room g c).After-refuse c.in_ok-place-in-Room.ensures.refused.1 c.try_home-in-Room.new.own c.try_home-in-Room.ensures.sees
     c.try_home-in-Room.new.caller c.from_residual-in_err-reply-in-Room.result c.in_err-reply-in-Room.field-0.0 c.from_residual-in_err-reply-in-Room.ensures.1 c.try_home-in-Room.ensures.site
     c.in_err-reply-in-Room.ensures.err (λ is. inl (c.try_home-in-Room.ensures.full (c.in_err-reply-in-Room.was ∙ ap Err is)))
 
@@ -292,10 +292,10 @@ returns-in-Wants-2 g c =
     let held = class_held c.try_home.new.other in
     let tried = rw c.in-Wants.is at c.in_ok-reply.ensures.tried in
     let again = rw c.in-Wants-2.is at c.in_ok-reply-in-Room.ensures.tried in
-    let suffice = subst (λ (n : ClassNo). Suffice (Some n) held last.stripe command moment) (sym (ap (λ (v : ClassView). v.number) c.in_ok-place-in-Room.ensures.refused ∙ (full g at).number_is))
+    let suffice = subst (λ (n : ClassNo). Suffice (Some n) held last.stripe command moment) (sym (ap (λ (v : ClassView). v.number) c.in_ok-place-in-Room.ensures.refused.1 ∙ (full g at).number_is))
     (subst (λ (o : Option ClassNo). Suffice (Some home) o last.stripe command moment) (sym (rw c.in-Room.is at tried.2).1)
     (suffice_same c.search.new.own.stripe last.stripe (site g at) (same g at) command moment (Some home) (class_held c.args.other.now) (suffices g behind))) in
-    ends_again g at c.in_ok-place-in-Room.ensures.refused end sees c.try_home-in-Room.new.caller (Err HistoryFull) HistoryFull refl c.try_home-in-Room.ensures.site (again.0, again.1)
+    ends_again g at c.in_ok-place-in-Room.ensures.refused.1 end sees c.try_home-in-Room.new.caller (Err HistoryFull) HistoryFull refl c.try_home-in-Room.ensures.site (again.0, again.1)
     (λ is. lacks g behind end (seen_full_grows config first end.sight (grows_trans first last.sight end.sight c.refuse.ensures.own.1 sees) (seen_full g at))
     (inr (entries_later config last.stripe end.stripe end.sight command moment c.try_home-in-Room.ensures.site again.0
     (wants_place config last.stripe end command moment (Some c.refuse.new.lent.class.number) held _ suffice c.in-Wants-2.field-0 again.2

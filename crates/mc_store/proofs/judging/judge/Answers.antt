@@ -12,7 +12,7 @@ use Rattle.mc_store.specs.declared.owned_stripe.OwnedStripe.TheInside as owned
 use Rattle.mc_store.specs.Reached.{IsStateBetween, seen_stripes}
 use Rattle.mc_store.proofs.JudgedEntryLemmas.{class_judged, fault_judged, known_judged, owner_judged, state_judged, still_judged, stripe_judged}
 use Rattle.mc_store.proofs.{SyncedStepLemmas.class_told_more, SyncedStepLemmas.handed_on, SyncedStepLemmas.settled_grows, SyncedStepLemmas.settled_told, LockKeepsLemmas.grows_trans}
-use Rattle.mc_store.proofs.SyncedStepLemmas.{stripe_side}
+use Rattle.mc_store.proofs.{ShortHistoryLemmas.match_err, SyncedStepLemmas.stripe_side}
 use Rattle.mc_store.proofs.OwnCallLemmas.{class_settled_by, stripe_walked_by}
 use Rattle.mc_store.proofs.judging.judge.Given.{Over}
 use Rattle.mc_store.proofs.judging.judge.Goals as goal
@@ -177,3 +177,6 @@ returns-clause-judged g c =
     subst (λ (s : Stripe). IsReachedIf (λ state. state ≡ s) g.N.Named.config (record { 0 = s.site.stripe }) class q judged) (lent_state g at)
     (subst (λ (k : Config). IsReachedIf (λ state. state ≡ lent.state) k (record { 0 = lent.state.site.stripe }) class q judged) c.requires.look.of follows) in
     record { had = search rules; class = search rules; reached = reached; known = known }
+
+pub returns-in_err-done-clause-judged : goal.returns-in_err-done-clause-judged
+returns-in_err-done-clause-judged g c = match_err _ _ c.in_err-done.field-0.0 c.from_residual.result c.from_residual.ensures.1 (search rules)

@@ -1,13 +1,14 @@
+use Rattle.std.specs.Prelude.{IfOk, OnOk}
 use Rattle.std.proofs.Common.{◌≡◌, ◌≤◌, ◌∙◌, List, ap, arith, length, refl, sym, subst}
 use Rattle.mc_item.specs.declared.{event.Event.Event, event.Event.TheVariants.Class}
 use Rattle.mc_board.specs.{Histories.Grows, Histories.list_at, Views.OwnerView}
 use Rattle.mc_board.proofs.PrefixLemmas.{prefix_self}
-use Rattle.mc_segment.specs.{ClassCalls.refused_event, ClassState.ClassView}
+use Rattle.mc_segment.specs.{ClassCalls.Makes, ClassCalls.refused_event, ClassState.ClassView}
 use Rattle.mc_store.specs.{Accounts.IsClassLock, Accounts.stretch_of, Locked.HasBegunSearch, Locked.IsLockedClass, Locked.IsLockedStripe, Locked.class_lock}
 use Rattle.mc_store.specs.{Serving.class_side, Sides.ClassSide, Sides.StripeSide, Sides.stripe_sight}
 use Rattle.mc_store.proofs.{AccountLemmas.still_walked, EnteredLemmas.heard_long, EnteredLemmas.heard_more, EnteredLemmas.is_class_lock, EnteredLemmas.lock_apart, LockKeepsLemmas.stripe_sees}
 use Rattle.mc_store.proofs.{CallerLemmas.search_sees, OwnEventLemmas.gains_refused, OwnEventLemmas.locked_told, LentClassLemmas.class_behind, NotedRefusalLemmas.noted_grows}
-use Rattle.mc_store.proofs.{NotedRefusalLemmas.refused_after, NotedRefusalLemmas.refused_heard, NotedRefusalLemmas.refused_seen, OwnCallLemmas.class_noted_by, SyncedStepLemmas.map_length}
+use Rattle.mc_store.proofs.{NotedRefusalLemmas.refused_after, NotedRefusalLemmas.refused_heard, NotedRefusalLemmas.refused_seen, OwnCallLemmas.class_noted_by, ShortHistoryLemmas.if_ok_both, SyncedStepLemmas.map_length}
 use Rattle.mc_store.proofs.pairing.refuse.Goals as goal
 
 pub catch_up_class-requires-clause-behind : goal.catch_up_class-requires-clause-behind
@@ -53,6 +54,17 @@ invariant_of-own g c =
     let heard = c.hear.new.self in
     let told = refused_heard own c.learn.new.stripe heard _ c.learn.ensures.stripe c.hear.ensures.told c.hear.ensures.grows in
     subst (IsLockedStripe g.N.Named.board.table g.N.Named.config) (sym told.0) (stripe_sees g.N.Named.board.table g.N.Named.config own heard.sight told.1 c.own.invariant)
+
+pub returns-clause-refused : goal.returns-clause-refused
+returns-clause-refused g c =
+    let r = c.refuse-place.result in
+    let raw = c.lent-inside.inside.0.0 in
+    let event = refused_event c.args.who in
+    let was : raw.state ≡ c.args.lent.now.class = ap (λ (x : ClassSide). x.class) (ap (λ i. i.side) c.lent-inside.view_is ∙ c.lent.view_is) in
+    let now : c.hear.new.class.class ≡ c.refuse-place.new.self = ap (λ (x : ClassSide). x.class) (c.hear.ensures.class ∙ c.learn.ensures.class) in
+    let place = subst (λ (v : ClassView). IfOk r (λ place. place ≡ length v.history)) was c.refuse-place.ensures.place in
+    let makes = subst (λ (v : ClassView). OnOk r (Makes v c.hear.new.class.class event)) was (subst (λ (v : ClassView). OnOk r (Makes raw.state v event)) (sym now) c.refuse-place.ensures.ok) in
+    if_ok_both r _ _ place makes
 
 pub returns-clause-own : goal.returns-clause-own
 returns-clause-own g c =

@@ -1,39 +1,43 @@
-use Rattle.std.proofs.Common.{refl}
+use Rattle.std.proofs.Common.{◌∙◌, refl}
 use Rattle.mc_item.specs.{Command.key_of, Measure.stripe_of}
 use Rattle.mc_script.specs.Exchanges.{Asks}
-use Rattle.mc_store.specs.Callers.{asked_for}
-use Rattle.mc_driver.proofs.{CalledEventLemmas.cut_calls, CalledEventLemmas.full_calls, CalledEventLemmas.short_any, SharedCallLemmas.call_failed, SharedCallLemmas.command_gains}
-use Rattle.mc_driver.proofs.SharedCallLemmas.{command_cut, goes_on, replied_ok}
+use Rattle.mc_store.proofs.FullLemmas.{full_short}
+use Rattle.mc_driver.proofs.{CalledEventLemmas.full_calls, CutCallLemmas.command_broke, EnteredCallLemmas.Gains, EnteredCallLemmas.gains}
+use Rattle.mc_driver.proofs.SharedCallLemmas.{call_failed, call_gains, goes_on, replied_ok}
 use Rattle.mc_evidence.proofs.SoundLemmas.{below_stripes}
 use Rattle.mc_driver.proofs.caller.CallerCalls.command.Goals as goal
+use Rattle.mc_driver.proofs.caller.CallerCalls.command.Goals.{After-command}
+use Rattle.mc_driver.proofs.caller.CallerCalls.command.Given.{Over}
+
+gained : (g : Over) (c : After-command g) → Gains c.args.self.now.pass.turn c.args.self.now.pass.made c.command.new.pass.made
+gained g c =
+    let old = c.args.self.now.pass in
+    let new = c.command.new.pass in
+    call_gains g.N.Named.config old new c.command.result c.command.ensures.replied c.command.ensures.cut (λ reply by. gains _ old new by.account.enters) (λ fault till. gains _ old new till.account)
 
 pub returns-clause-ok : goal.returns-clause-ok
 returns-clause-ok g c =
-    let config = g.N.Named.config in
-    let old = c.args.self.now.pass in
-    let new = c.command.new.pass in
-    let gained = command_gains config (stripe_of (key_of c.args.command) config.stripes).0 old new c.args.command c.args.moment c.command.result c.command.ensures.replied c.command.ensures.cut in
-    replied_ok config old new c.command.ensures.caller c.command.ensures.grows.seen c.requires.may gained c.args.command c.args.moment c.command.result c.command.ensures.turn.1
-    c.command.ensures.replied
+    let at = (goal.at.returns-clause-ok g c).After-command in
+    replied_ok g.N.Named.config c.args.self.now.pass c.command.new.pass c.command.ensures.caller c.command.ensures.grows.seen c.requires.may (gained g at)
+    c.args.command c.args.moment c.command.result c.command.ensures.turn.1 c.command.ensures.replied
 
 pub returns-clause-err : goal.returns-clause-err
 returns-clause-err g c =
+    let at = (goal.at.returns-clause-err g c).After-command in
+    let old = c.args.self.now.pass in
+    let new = c.command.new.pass in
+    call_failed g.N.Named.config old new c.command.ensures.caller c.command.ensures.grows.seen c.requires.may (gained g at) (Asks c.args.command) c.args.moment c.command.result c.command.ensures.cut
+    (λ fault cut. (
+      cut.noted,
+      λ before. command_broke g.N.Named.config old new c.args.command c.args.moment fault c.requires.may.some c.command.ensures.grows.seen before cut,
+    ))
+
+pub returns-clause-caller : goal.returns-clause-caller
+returns-clause-caller g c =
     let config = g.N.Named.config in
     let number = (stripe_of (key_of c.args.command) config.stripes).0 in
     let old = c.args.self.now.pass in
     let new = c.command.new.pass in
-    let gained = command_gains config number old new c.args.command c.args.moment c.command.result c.command.ensures.replied c.command.ensures.cut in
-    call_failed config old new c.command.ensures.caller c.command.ensures.grows.seen c.requires.may gained (Asks c.args.command) c.args.moment c.command.result
-    (command_cut config old new c.args.command c.args.moment c.command.result c.requires.may c.command.ensures.grows.seen c.command.ensures.cut)
-
-pub returns-clause-caller : goal.returns-clause-caller
-returns-clause-caller g c =
-    let number = (stripe_of (key_of c.args.command) g.N.Named.config.stripes).0 in
-    let old = c.args.self.now.pass in
-    let new = c.command.new.pass in
-    let call = asked_for c.args.command c.args.moment in
-    goes_on g.N.Named.config old new c.command.result c.requires.may c.command.ensures.caller c.command.ensures.turn.0
-    (full_calls g.N.Named.config old new call c.command.result c.requires.may refl
-    (cut_calls g.N.Named.config (stripe_of (key_of c.args.command) g.N.Named.config.stripes).0 old new c.args.command c.args.moment c.command.result c.command.ensures.cut)
-    (short_any g.N.Named.config number old new c.args.command c.args.moment c.command.result
-    (below_stripes (key_of c.args.command) g.N.Named.config.stripes c.requires.may.some) c.command.ensures.cut))
+    goes_on config old new c.command.result c.requires.may c.command.ensures.caller c.command.ensures.turn.0
+    (full_calls config old new c.command.result _ c.requires.may c.command.ensures.cut (λ cut. full_short config number cut.old cut.new new.sight c.args.command c.args.moment
+    (below_stripes (key_of c.args.command) config.stripes c.requires.may.some) (cut.grew.site.limit ∙ cut.grew.made_with.limit) cut.grew.now (cut.full refl)))

@@ -115,9 +115,9 @@ returns-in_err-judge-clause-gate g c =
             let was = kept.1 of in (
               was.0,
               looked_both g.N.Named.config.stripes w _ _ _ _ _ _ _ _ was.1 kept.0
-                  (same_after look.class.now q g.N.Named.config.stripes w s me.others.answers.now.items c.reserve.new.self.items c.judge.new.look.class.now c.in_err-judge.ensures.err c.reserve.ensures.items),
+                  (same_after look.class.now q g.N.Named.config.stripes w s me.others.answers.now.items c.reserve.new.self.items c.judge.new.look.class.now c.in_err-judge.ensures.judged c.reserve.ensures.items),
             ),
-        searches_failed look.ask.who look.ask.moment _ _ _ _ _ _ kept.2 sees (ap (λ (v : ClassView). v.history) c.in_err-judge.ensures.err),
+        searches_failed look.ask.who look.ask.moment _ _ _ _ _ _ kept.2 sees (ap (λ (v : ClassView). v.history) c.in_err-judge.ensures.judged),
         no_shorter_both (length first.others.owner.now.history) (length me.others.owner.now.history) (length c.judge.new.owner.history) kept.3 c.judge.ensures.owner,
         still_on g.N.Named.config look.class.now.number (length first.others.owner.now.history) (length me.others.owner.now.history) look.ask.who.turn first.others.seen.now.sight
             me.others.seen.now.sight c.judge.new.seen.sight begun look.class.now.history c.judge.new.look.class.now.history first.others.caller.now me.others.caller.now c.judge.new.caller

@@ -1,5 +1,6 @@
 use Rattle.std.proofs.Common.{drop, length, refl, rules, sym, ap, ◌∙◌, subst}
-use Rattle.mc_store.proofs.{CrawledLemmas.counts_one, GateLemmas.no_shorter, GateLemmas.served_asked, GateLemmas.still_caught_up, GateLemmas.still_unwalked, OwnEventLemmas.walks_none}
+use Rattle.mc_store.proofs.{CrawledLemmas.counts_one, CrawledLemmas.match_on, SeenStripeLemmas.on_err_more}
+use Rattle.mc_store.proofs.{GateLemmas.no_shorter, GateLemmas.served_asked, GateLemmas.still_caught_up, GateLemmas.still_unwalked, OwnEventLemmas.walks_none}
 use Rattle.std.specs.Prelude.{OnOk}
 use Rattle.mc_item.specs.declared.{config.Config.Config, item.Who.Who}
 use Rattle.mc_crawl.specs.Crawl.{HasCounted, crawl}
@@ -70,5 +71,7 @@ returns-clause-counted g c =
     (λ (k : Config). OnOk c.crawl_one-done.result (HasCounted (IsStateBetween g.N.Named.config.stripes (seen_stripes first) (seen_stripes last)) (crawl turn.who c.args.link.number turn.moment k) c.args.class.now
     c.crawl_one-done.new.class c.args.self.now.answers.now.items c.crawl_one-done.new.gate.answers.now.items c.args.histogram.now c.crawl_one-done.new.histogram))
     c.requires.gate.names c.crawl_one-done.ensures.crawled in
-    counts_one g.N.Named.config (seen_stripes first) (seen_stripes last) c.args.class.now c.crawl_one-done.new.class turn c.args.link _ _ c.args.histogram.now c.crawl_one-done.new.histogram
-    c.crawl_one-done.result crawled
+    let stays = on_err_more c.crawl_one-done.result _ _ (λ it. ap (λ (v : ClassView). v.history) it.0) c.crawl_one-done.ensures.err in
+    match_on c.crawl_one-done.result _ _
+    (counts_one g.N.Named.config (seen_stripes first) (seen_stripes last) c.args.class.now c.crawl_one-done.new.class turn c.args.link _ _ c.args.histogram.now c.crawl_one-done.new.histogram
+    c.crawl_one-done.result crawled) stays

@@ -59,7 +59,7 @@ returns-in_err-judge-clause-gate g c =
     (λ (v : SeenView). StillWalksFrom g.N.Named.config look.class.now.number (length me.owner.now.history) look.ask.who.turn v.sight c.judge.new.seen.sight look.class.now.history
     c.judge.new.look.class.now.history me.caller.now c.judge.new.caller)
     c.learn.ensures.same c.judge.ensures.still in
-    let same = ap (λ (v : ClassView). v.history) c.in_err-judge.ensures.err in
+    let same = ap (λ (v : ClassView). v.history) c.in_err-judge.ensures.judged in
     record {
       holds = search rules;
       serves = (

@@ -1,4 +1,4 @@
-use Rattle.std.proofs.Common.{◌≡◌, ◌<◌, ◌+◌, ◌++◌, ◌∷◌, [], List, ap, ◌∙◌, inl, inr, length, refl, subst, sym}
+use Rattle.std.proofs.Common.{◌≡◌, ◌<◌, ◌+◌, ◌++◌, Err, ◌∷◌, [], List, ap, ◌∙◌, inl, inr, length, refl, subst, sym}
 use Rattle.std.specs.Prelude.{OnErr, OnOk}
 use Rattle.mc_item.specs.declared.{call_event.CallEvent.CallEvent, item.Who.Who, item.ClassNo.ClassNo}
 use Rattle.mc_board.specs.{Histories.Grows, Histories.list_at, Views.SeenView}
@@ -8,12 +8,12 @@ use Rattle.mc_evidence.specs.Seen.{stripes_seen}
 use Rattle.mc_pull.specs.Growth as classes
 use Rattle.mc_hits.specs.Rule.{AreBefore}
 use Rattle.mc_store.specs.{Callers.call_events, Callers.limits_of, Callers.turns_of, Calls.IsSeenGrowOf, Finals.IsBehindAt, Locked.IsHeldClass, Locked.caller_place, Made.HasNoneMadeBy, Made.IsLimitCalled}
-use Rattle.mc_store.specs.{Accounts.StillCalls, Callers.placed_in, Locked.class_lock, Passes.CallerView, Passes.PassView, Passes.next_who, Passes.pass_of, Sides.ClassSide, Sides.class_told}
+use Rattle.mc_store.specs.{Accounts.Enters, Accounts.StillCalls, Callers.placed_in, Locked.class_lock, Passes.CallerView, Passes.PassView, Passes.next_who, Passes.pass_of, Sides.ClassSide, Sides.class_told}
 use Rattle.mc_store.specs.Walking.{class_sight}
-use Rattle.mc_store.proofs.{AccountLemmas.enters_in, AccountLemmas.enters_later, AccountLemmas.enters_same, CallerLemmas.on_ok_always}
+use Rattle.mc_store.proofs.{AccountLemmas.enters_in, AccountLemmas.enters_later, CallerLemmas.on_ok_always, CrawledLemmas.on_ok_more}
 use Rattle.mc_store.proofs.{GrownClassLemmas.class_grew, GrownClassLemmas.class_shared, GrownClassLemmas.lacks_seen, LimitedClassLemmas.limit_seen, LimitedClassLemmas.limited_so, LimitedClassLemmas.unlimited_so}
 use Rattle.mc_store.proofs.PlacedLemmas.{placed_same, placed_sees}
-use Rattle.mc_store.proofs.SeenStripeLemmas.{on_err_more}
+use Rattle.mc_store.proofs.ShortHistoryLemmas.{if_err_by, if_err_of}
 use Rattle.mc_store.proofs.store.Store.chunks.Given.{Over}
 use Rattle.mc_store.proofs.store.Store.chunks.Goals as goal
 use Rattle.mc_store.proofs.store.Store.chunks.Goals.{After-share}
@@ -66,30 +66,50 @@ module _ (g : Over) (c : After-share g) where
   seen_grow =
       class_grew g.N.Named.board.table g.N.Named.config c.args.class c.args.pass.now.sight c.share.new.seen.sight old_side new_side old_kept new_kept number grew behind told all
 
+  -- the call was noted, and the account has what it made
+  calls : c.limit_under-limited.new.caller.calls ≡ c.args.pass.now.calls ++ limits_of c.args.class c.args.chunks ∷ []
+  calls = c.limit_under-limited.ensures.same.1.calls_are ∙ (ap (λ (k : CallerView). k.calls) c.tell_class.ensures.same ∙ ap (λ (p : PassView). p.calls) took)
+
+  entered : Enters (λ lock place event. lock ≡ class_lock g.N.Named.config c.args.class) c.args.pass.now.turn c.share.new.seen.sight c.args.pass.now.made c.limit_under-limited.new.caller.made
+  entered =
+      let config = g.N.Named.config in
+      let old = c.args.pass.now in
+      let teller = c.tell_class.new.self in
+      let is : c.tell_class.new.class.class.number ≡ c.args.class = ap (λ (v : ClassView). v.number) class_is ∙ number in
+      let made : teller.made ≡ old.made = ap (λ (k : CallerView). k.made) c.tell_class.ensures.same ∙ ap (λ (p : PassView). p.made) took in
+      let own =
+      enters_later (λ lock place event. lock ≡ class_lock config c.tell_class.new.class.class.number) c.in_ok-who.who.turn {mid = class_sight config new_side} {after = c.share.new.seen.sight}
+      teller.made c.limit_under-limited.new.caller.made (class_shared g.N.Named.board.table config new_side c.share.new.seen.sight new_kept told all) c.limit_under-limited.ensures.same.1.enters in
+      enters_in (λ class lock place event. lock ≡ class_lock config class) c.tell_class.new.class.class.number c.args.class c.in_ok-who.who.turn old.turn teller.made old.made
+      c.limit_under-limited.new.caller.made is (ap (λ (w : Who). w.turn) c.in_ok-who.ensures.took.who) made own
+
 pub returns-clause-limited : goal.returns-clause-limited
 returns-clause-limited g c =
     let at = (goal.at.returns-clause-limited g c).After-share in
     let r = c.limit_under-limited.result in
     let made = subst (λ (who : Who). OnOk r ((new_side g at).class.history ≡ (old_side g at).class.history ++ limited_event who c.args.chunks ∷ [])) c.in_ok-who.ensures.took.who
     (subst (λ (v : ClassView). OnOk r ((new_side g at).class.history ≡ v.history ++ limited_event c.in_ok-who.who c.args.chunks ∷ [])) (class_is g at) c.limit_under-limited.ensures.made) in
-    limited_so g.N.Named.config c.args.class c.args.pass.now.sight c.share.new.seen.sight (old_side g at).class (new_side g at).class.history (next_who c.args.pass.now) c.args.chunks
-    (seen_grow g at) (first g at) r made
+    on_ok_more r _ _ (λ gained. record { gained = gained; noted = calls g at; account = entered g at })
+    (limited_so g.N.Named.config c.args.class c.args.pass.now.sight c.share.new.seen.sight (old_side g at).class (new_side g at).class.history (next_who c.args.pass.now) c.args.chunks
+    (seen_grow g at) (first g at) r made)
 
 pub returns-clause-cut : goal.returns-clause-cut
 returns-clause-cut g c =
     let at = (goal.at.returns-clause-cut g c).After-share in
     let r = c.limit_under-limited.result in
     let stays = subst (λ (v : ClassView). OnErr r ((new_side g at).class.history ≡ v.history)) (class_is g at) c.limit_under-limited.ensures.stays in
-    let calls = c.limit_under-limited.ensures.same.1.calls_are ∙ (ap (λ (k : CallerView). k.calls) c.tell_class.ensures.same ∙ ap (λ (p : PassView). p.calls) (took g at)) in
-    on_err_more r _ _ (λ gained. inr (calls, gained))
+    if_err_by r _ _ (λ fault was gained. inr (record {
+      limited = record { gained = gained; noted = calls g at; account = entered g at };
+      full = λ is. lacks_seen g.N.Named.board.table g.N.Named.config c.args.class c.args.pass.now.sight c.share.new.seen.sight (old_side g at) (new_side g at) (old_kept g at) (new_kept g at)
+          (number g at) (grew g at) (behind g at) (told g at) (all g at) (c.limit_under-limited.ensures.full (was ∙ ap Err is));
+    }))
     (unlimited_so g.N.Named.config c.args.class c.args.pass.now.sight c.share.new.seen.sight (old_side g at).class (new_side g at).class.history (next_who c.args.pass.now)
     (seen_grow g at) (first g at) r stays)
 
-pub returns-clause-full : goal.returns-clause-full
-returns-clause-full g c = λ is.
-    let at = (goal.at.returns-clause-full g c).After-share in
-    inl (lacks_seen g.N.Named.board.table g.N.Named.config c.args.class c.args.pass.now.sight c.share.new.seen.sight (old_side g at) (new_side g at) (old_kept g at) (new_kept g at)
-    (number g at) (grew g at) (behind g at) (told g at) (all g at) (c.limit_under-limited.ensures.full is))
+pub returns-in_err-who-clause-cut : goal.returns-in_err-who-clause-cut
+returns-in_err-who-clause-cut g c =
+    if_err_of c.in_err-who.field-0.0 c.from_residual.result _ c.from_residual.ensures.1
+    (inl (c.in_err-who.ensures.err, λ is. c.take_turn_in.ensures.full (c.in_err-who.was ∙ ap Err is)))
 
 pub returns-clause-turn : goal.returns-clause-turn
 returns-clause-turn g c = (
@@ -119,26 +139,6 @@ limit_under-limited-requires-clause-called g c =
     (limit_seen config c.pass.inside.caller sight c.args.class who c.args.chunks c.args.pass.now.calls c.tell_class.ensures.whole
     (ap (λ (w : Who). w.caller) c.in_ok-who.ensures.took.who ∙ sym (ap (λ (p : PassView). p.caller) view)) (ap (λ (p : PassView). p.calls) view)
     (c.in_ok-who.ensures.turns ∙ sym (ap (λ (w : Who). w.turn) c.in_ok-who.ensures.took.who)))
-
-pub returns-clause-account : goal.returns-clause-account
-returns-clause-account g c =
-    let at = (goal.at.returns-clause-account g c).After-share in
-    let config = g.N.Named.config in
-    let old = c.args.pass.now in
-    let teller = c.tell_class.new.self in
-    let is : c.tell_class.new.class.class.number ≡ c.args.class = ap (λ (v : ClassView). v.number) (class_is g at) ∙ number g at in
-    let made : teller.made ≡ old.made = ap (λ (k : CallerView). k.made) c.tell_class.ensures.same ∙ ap (λ (p : PassView). p.made) (took g at) in
-    let entered =
-    enters_later (λ lock place event. lock ≡ class_lock config c.tell_class.new.class.class.number) c.in_ok-who.who.turn {mid = class_sight config (new_side g at)} {after = c.share.new.seen.sight}
-    teller.made c.limit_under-limited.new.caller.made
-    (class_shared g.N.Named.board.table config (new_side g at) c.share.new.seen.sight (new_kept g at) (told g at) (all g at)) c.limit_under-limited.ensures.same.1.enters in
-    enters_in (λ class lock place event. lock ≡ class_lock config class) c.tell_class.new.class.class.number c.args.class c.in_ok-who.who.turn old.turn teller.made old.made
-    c.limit_under-limited.new.caller.made is (ap (λ (w : Who). w.turn) c.in_ok-who.ensures.took.who) made entered
-
-pub returns-in_err-who-clause-account : goal.returns-in_err-who-clause-account
-returns-in_err-who-clause-account g c =
-    let old = c.args.pass.now in
-    enters_same (λ lock place event. lock ≡ class_lock g.N.Named.config c.args.class) old.turn old.made c.take_turn_in.new.self.made (ap (λ (p : PassView). p.made) c.in_err-who.ensures.err)
 
 pub invariant_of-pass : goal.invariant_of-pass
 invariant_of-pass g c =

@@ -1,17 +1,21 @@
-use Rattle.std.proofs.Common.{◌++◌, ◌∷◌, [], ◌≡◌, ◌+◌, ℕ, ap, ◌∙◌, length, refl, subst, sym, inr, drop, take, arith}
+use Rattle.std.proofs.Common.{◌++◌, ◌∷◌, [], ◌≡◌, ◌+◌, ℕ, Err, ap, ◌∙◌, length, refl, subst, sym, inl, inr, drop, take, arith}
 use Rattle.std.proofs.Math.Seq.{take-length}
 use Rattle.std.proofs.lemmas.List.{take-append-drop, take_more}
 use Rattle.mc_item.specs.Counts.{no_counts}
-use Rattle.mc_item.specs.declared.{counts.Histogram.Histogram, item.Link.Link, item.Who.Who}
+use Rattle.mc_item.specs.declared.{counts.Histogram.Histogram, fault.Fault.Fault, item.Link.Link, item.Who.Who}
+use Rattle.mc_item.specs.declared.fault.Fault.TheVariants.{HistoryFull, NoMemory}
 use Rattle.mc_board.specs.Histories.{list_at}
 use Rattle.mc_crawl.specs.CrawlCount.{IsBalanced}
 use Rattle.mc_store.specs.Crawls.{IsSnapshot, ShowsReclaims}
 use Rattle.mc_store.specs.{Locked.class_lock, Passes.PassView, Serving.IsLater, Sides.class_told, Callers.crawling_of}
 use Rattle.mc_store.proofs.CrawledLemmas.{CountsSoFar, shows_both, shows_none, so_far_all, so_far_more, so_far_none, so_far_till, till_none}
-use Rattle.mc_store.proofs.{SeenStripeLemmas.on_err_always, SeenStripeLemmas.called_now}
+use Rattle.mc_store.proofs.{SeenStripeLemmas.called_now, ShortHistoryLemmas.if_err_of}
 use Rattle.mc_store.proofs.LaterLemmas.{later_trans}
 use Rattle.mc_store.proofs.{CallerLemmas.on_ok_always, NextTurnLemmas.turn_called}
 use Rattle.mc_store.proofs.store.Store.crawl.Goals as goal
+
+no_memory : NoMemory ≡ HistoryFull → ⊥
+no_memory is = cc
 
 pub loop-i-init : goal.loop-i-init
 loop-i-init g c =
@@ -49,10 +53,11 @@ returns-in_err-crawl_link-clause-cut g c =
     let i = c.loop-i.invariant in
     let links = c.in_ok-links.links.items in
     let new = c.crawl_link.new.pass in
-    on_err_always c.from_residual-in_err-crawl_link.result
+    if_err_of c.in_err-crawl_link.field-0.0 c.from_residual-in_err-crawl_link.result _ c.from_residual-in_err-crawl_link.ensures.1
     (inr (so_far_till g.N.Named.config c.args.class c.args.pass.now c.loop-i.pass new c.in_ok-who.who c.args.moment links (take c.loop-i.i links) c.loop-i.histogram i.3 i.7
     (drop c.loop-i.i links, take-append-drop c.loop-i.i links) c.crawl_link.ensures.grows.seen c.in_err-crawl_link.ensures.counted
-    (ap (λ (p : PassView). p.calls) c.crawl_link.ensures.same ∙ i.8)))
+    (ap (λ (p : PassView). p.calls) c.crawl_link.ensures.same ∙ i.8) c.in_err-crawl_link.field-0.0
+    (λ is. c.crawl_link.ensures.full (c.in_err-crawl_link.was ∙ ap Err is))))
 
 pub returns-in_err-links-clause-cut : goal.returns-in_err-links-clause-cut
 returns-in_err-links-clause-cut g c =
@@ -61,9 +66,15 @@ returns-in_err-links-clause-cut g c =
     let took = c.in_ok-who.ensures.took.turn in
     let same = c.snapshot_of.ensures.same in
     let later : IsLater old.sight new.sight = subst (λ (p : PassView). IsLater p.sight new.sight) took c.snapshot_of.ensures.grows in
-    on_err_always c.from_residual-in_err-links.result
+    let memory : c.in_err-links.field-0.0 ≡ NoMemory = c.in_err-links.ensures.memory in
+    if_err_of c.in_err-links.field-0.0 c.from_residual-in_err-links.result _ c.from_residual-in_err-links.ensures.1
     (inr (till_none g.N.Named.config c.args.class old new c.args.moment c.snapshot_of.ensures.sound later.seen (ap (λ (p : PassView). p.made) same ∙ ap (λ (p : PassView). p.made) took)
-    (ap (λ (p : PassView). p.calls) same ∙ ap (λ (p : PassView). p.calls) took)))
+    (ap (λ (p : PassView). p.calls) same ∙ ap (λ (p : PassView). p.calls) took) c.in_err-links.field-0.0 (λ is. absurd (no_memory (sym memory ∙ is)))))
+
+pub returns-in_err-who-clause-cut : goal.returns-in_err-who-clause-cut
+returns-in_err-who-clause-cut g c =
+    if_err_of c.in_err-who.field-0.0 c.from_residual.result _ c.from_residual.ensures.1
+    (inl (c.in_err-who.ensures.err, λ is. c.take_turn.ensures.full (c.in_err-who.was ∙ ap Err is)))
 
 pub crawl_link-requires-clause-may : goal.crawl_link-requires-clause-may
 crawl_link-requires-clause-may g c =
@@ -72,9 +83,6 @@ crawl_link-requires-clause-may g c =
       of = c.requires.class;
       called = called_now c.args.pass.now c.loop-i.pass (crawling_of c.args.class c.args.moment) c.in_ok-who.who c.args.moment i.5 i.8 i.7 c.in_ok-who.ensures.turns refl;
     }
-
-pub returns-clause-calls : goal.returns-clause-calls
-returns-clause-calls g c = c.loop-i.invariant.8
 
 pub loop-i-preserved : goal.loop-i-preserved
 loop-i-preserved g c =
@@ -113,7 +121,7 @@ returns-clause-crawled g c =
     so_far_all config c.args.class old new c.args.moment links done c.loop-i.histogram
     (subst (λ (who : Who). CountsSoFar config c.args.class old new who c.args.moment links done c.loop-i.histogram) i.7 i.3)
     (ap (λ (n : ℕ). take n links) all ∙ take-length links) (i.0 ∙ all) i.1
-    (subst (λ (who : Who). ShowsReclaims config c.args.class old.sight new.sight who c.args.moment 0 c.loop-i.histogram.reclaimed) i.7 i.2) i.9
+    (subst (λ (who : Who). ShowsReclaims config c.args.class old.sight new.sight who c.args.moment 0 c.loop-i.histogram.reclaimed) i.7 i.2) i.9 i.8
 
 pub returns-clause-hands : goal.returns-clause-hands
 returns-clause-hands g c = c.loop-i.invariant.10

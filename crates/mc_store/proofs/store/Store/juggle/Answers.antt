@@ -1,15 +1,15 @@
-use Rattle.std.proofs.Common.{◌≡◌, ap, ◌∙◌, inl, length, List, sym, refl}
+use Rattle.std.proofs.Common.{◌≡◌, ◌++◌, ◌∷◌, [], Err, ap, ◌∙◌, inl, length, List, sym, refl}
 use Rattle.std.specs.Prelude.{MatchResult}
 use Rattle.mc_item.specs.declared.{call_event.CallEvent.CallEvent, item.Who.Who}
 use Rattle.mc_board.specs.{Histories.Grows, Histories.list_at, Views.SeenView}
 use Rattle.mc_pull.specs.Growth as classes
 use Rattle.mc_hits.specs.{Views.HandsView}
 use Rattle.mc_evidence.specs.Seen.{stripes_seen}
-use Rattle.mc_store.specs.{Accounts.IsOfWalk, Accounts.StillCalls, Callers.juggling_of, Callers.placed_in, Callers.turns_of, Calls.IsUpkeepCut, Calls.IsUpkept, Finals.IsBehindAt, Hits.queue_of}
+use Rattle.mc_store.specs.{Accounts.Enters, Accounts.IsOfWalk, Accounts.StillCalls, Callers.juggling_of, Callers.placed_in, Callers.turns_of, Calls.IsUpkeepCut, Calls.IsUpkept, Finals.IsBehindAt, Hits.queue_of}
 use Rattle.mc_store.specs.{Locked.IsHeldClass, Made.HasNoneMadeBy, Passes.CallerView, Passes.PassView, Passes.next_who, Sides.ClassSide, Sides.class_told, Walking.class_sight}
-use Rattle.mc_store.proofs.{AccountLemmas.enters_later, AccountLemmas.enters_same, CallerLemmas.on_ok_always, GrownClassLemmas.class_shared, GrownClassLemmas.fails_full, GrownClassLemmas.juggled_so}
+use Rattle.mc_store.proofs.{AccountLemmas.enters_later, CallerLemmas.on_ok_always, GrownClassLemmas.class_shared, GrownClassLemmas.juggled_so}
 use Rattle.mc_store.proofs.{GrownClassLemmas.juggled_till, PlacedLemmas.placed_same, PlacedLemmas.placed_sees, SeenStripeLemmas.called_now, TakenHitLemmas.takes_none}
-use Rattle.mc_store.proofs.ShortHistoryLemmas.{if_err_any, match_fault, match_ok}
+use Rattle.mc_store.proofs.ShortHistoryLemmas.{if_err_of, match_fault, match_ok}
 use Rattle.mc_store.proofs.store.Store.juggle.Given.{Over}
 use Rattle.mc_store.proofs.store.Store.juggle.Goals as goal
 use Rattle.mc_store.proofs.store.Store.juggle.Goals.{After-share}
@@ -64,27 +64,35 @@ module _ (g : Over) (c : After-share g) where
       (IsUpkeepCut g.N.Named.config old_side.class (record { who = next_who c.args.pass.now; moment = c.args.moment }) c.args.pass.now.hands c.upkeep_under-moves.new.hands new_side.class.history)
   upkept = rw (hands, c.in_ok-who.ensures.took.who, class_is) at c.upkeep_under-moves.ensures.upkept
 
+  -- the call was noted, and the account has what the upkeep made
+  calls : c.upkeep_under-moves.new.caller.calls ≡ c.args.pass.now.calls ++ juggling_of c.args.class c.args.moment ∷ []
+  calls = still.calls_are ∙ ap (λ (p : PassView). p.calls) (c.pass.view_is ∙ c.in_ok-who.ensures.took.turn)
+
+  entered : Enters (IsOfWalk g.N.Named.config c.args.class) c.args.pass.now.turn c.share.new.seen.sight c.args.pass.now.made c.upkeep_under-moves.new.caller.made
+  entered =
+      let config = g.N.Named.config in
+      let seen = class_shared g.N.Named.board.table config new_side c.share.new.seen.sight new_kept told all in
+      rw (class_is, number, ap (λ (w : Who). w.turn) c.in_ok-who.ensures.took.who, ap (λ (p : PassView). p.made) (c.pass.view_is ∙ c.in_ok-who.ensures.took.turn)) at
+      (enters_later (IsOfWalk config c.tell_class.new.class.class.number) c.in_ok-who.who.turn {mid = class_sight config new_side} {after = c.share.new.seen.sight}
+      c.pass.inside.caller.made c.upkeep_under-moves.new.caller.made seen still.enters)
+
 pub returns-clause-juggled : goal.returns-clause-juggled
 returns-clause-juggled g c =
     let at = (goal.at.returns-clause-juggled g c).After-share in
     juggled_so g.N.Named.board.table g.N.Named.config c.args.class c.args.pass.now.sight c.share.new.seen.sight (old_side g at) (new_side g at) (old_kept g at) (new_kept g at)
-    (number g at) (grew g at) (behind g at) (told g at) (all g at) c.args.pass.now _ c.args.moment _ (first g at) refl refl (match_ok c.upkeep_under-moves.result _ _ (upkept g at))
+    (number g at) (grew g at) (behind g at) (told g at) (all g at) c.args.pass.now _ c.args.moment _ (first g at) refl refl (calls g at) (entered g at) (match_ok c.upkeep_under-moves.result _ _ (upkept g at))
 
 pub returns-clause-cut : goal.returns-clause-cut
 returns-clause-cut g c =
     let at = (goal.at.returns-clause-cut g c).After-share in
-    let calls = (still g at).calls_are ∙ ap (λ (p : PassView). p.calls) (c.pass.view_is ∙ c.in_ok-who.ensures.took.turn) in
     juggled_till g.N.Named.board.table g.N.Named.config c.args.class c.args.pass.now.sight c.share.new.seen.sight (old_side g at) (new_side g at) (old_kept g at) (new_kept g at)
-    (number g at) (grew g at) (behind g at) (told g at) (all g at) c.args.pass.now _ c.args.moment _ (first g at) refl refl calls (match_fault c.upkeep_under-moves.result _ _ (upkept g at))
+    (number g at) (grew g at) (behind g at) (told g at) (all g at) c.args.pass.now _ c.args.moment _ (first g at) refl refl (calls g at) (entered g at)
+    c.upkeep_under-moves.ensures.fault (match_fault c.upkeep_under-moves.result _ _ (upkept g at))
 
 pub returns-in_err-who-clause-cut : goal.returns-in_err-who-clause-cut
-returns-in_err-who-clause-cut g c = if_err_any c.from_residual.result _ (λ fault. inl c.in_err-who.ensures.err)
-
-pub returns-clause-full : goal.returns-clause-full
-returns-clause-full g c = λ is.
-    let at = (goal.at.returns-clause-full g c).After-share in
-    inl (fails_full g.N.Named.board.table g.N.Named.config c.args.class c.args.pass.now.sight c.share.new.seen.sight (old_side g at) (new_side g at) (old_kept g at) (new_kept g at)
-    (number g at) (grew g at) (behind g at) (told g at) (all g at) c.upkeep_under-moves.result c.upkeep_under-moves.ensures.fault is)
+returns-in_err-who-clause-cut g c =
+    if_err_of c.in_err-who.field-0.0 c.from_residual.result _ c.from_residual.ensures.1
+    (inl (c.in_err-who.ensures.err, λ is. c.take_turn_in.ensures.full (c.in_err-who.was ∙ ap Err is)))
 
 pub returns-clause-turn : goal.returns-clause-turn
 returns-clause-turn g c =
@@ -117,20 +125,6 @@ returns-clause-taken g c =
 pub returns-in_err-who-clause-taken : goal.returns-in_err-who-clause-taken
 returns-in_err-who-clause-taken g c =
     takes_none (queue_of c.args.class) c.args.pass.now.hands c.take_turn_in.new.self.hands (ap (λ (p : PassView). p.hands) c.in_err-who.ensures.err)
-
-pub returns-clause-account : goal.returns-clause-account
-returns-clause-account g c =
-    let at = (goal.at.returns-clause-account g c).After-share in
-    let config = g.N.Named.config in
-    let seen = class_shared g.N.Named.board.table config (new_side g at) c.share.new.seen.sight (new_kept g at) (told g at) (all g at) in
-    rw (class_is g at, number g at, ap (λ (w : Who). w.turn) c.in_ok-who.ensures.took.who, ap (λ (p : PassView). p.made) (c.pass.view_is ∙ c.in_ok-who.ensures.took.turn)) at
-    (enters_later (IsOfWalk config c.tell_class.new.class.class.number) c.in_ok-who.who.turn {mid = class_sight config (new_side g at)} {after = c.share.new.seen.sight}
-    c.pass.inside.caller.made c.upkeep_under-moves.new.caller.made seen (still g at).enters)
-
-pub returns-in_err-who-clause-account : goal.returns-in_err-who-clause-account
-returns-in_err-who-clause-account g c =
-    let old = c.args.pass.now in
-    enters_same (IsOfWalk g.N.Named.config c.args.class) old.turn old.made c.take_turn_in.new.self.made (ap (λ (p : PassView). p.made) c.in_err-who.ensures.err)
 
 pub invariant_of-pass : goal.invariant_of-pass
 invariant_of-pass g c =
