@@ -1,5 +1,5 @@
 //! Reads the lines of the directives and of quit. Their verbs take two tokens at most, and never noreply.
-ghost use Rattle.std.specs.Prelude.{◌≡◌, ◌∷◌, [], ◌<◌, ◌≤◌, ◌^◌, IfSome, map, false};
+ghost use Rattle.std.specs.Prelude.{◌≡◌, ◌∷◌, [], ◌<◌, ◌≤◌, IfSome, map, false};
 ghost use Rattle.mc_proto.specs.{Grammar.IsFine, Grammar.IsModerate, Grammar.closes, Table.row_says, Table.Nothing};
 ghost use Rattle.mc_proto.specs.Kinds as kinds;
 ghost use Rattle.mc_proto.specs.Lines as lines;

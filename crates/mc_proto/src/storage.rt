@@ -1,5 +1,5 @@
 //! Reads the storage lines: set, add, replace, cas, append and prepend.
-ghost use Rattle.std.specs.Prelude.{◌≡◌, ◌∷◌, [], ◌+◌, ◌<◌, ◌≤◌, IfOk, IfSome, length, map};
+ghost use Rattle.std.specs.Prelude.{◌≡◌, ◌∷◌, [], ◌+◌, ◌<◌, ◌≤◌, IfOk, map};
 ghost use Rattle.mc_item.specs.declared.command.Verb.TheVariants as verbs;
 ghost use Rattle.mc_proto.specs.{Grammar.IsFine, Table.row_says, Table.kinds_say, Table.Noreply};
 ghost use Rattle.mc_proto.specs.Kinds as kinds;

@@ -1,5 +1,5 @@
 //! Writes the texts of replies, as `specs/Text.antt` defines them.
-ghost use Rattle.std.specs.Prelude.{◌≡◌, ◌++◌, ◌∷◌, [], ℕ, List, IfOk, OnOk, OnErr, length, take, codes, decimal, ◌<◌};
+ghost use Rattle.std.specs.Prelude.{◌≡◌, ◌++◌, IfOk, OnOk, OnErr, length, take, codes, decimal, ◌<◌};
 ghost use Rattle.mc_proto.specs.Text as texts;
 
 use crate::appending::{make_room, push_parts, push_text};
@@ -116,18 +116,6 @@ fn push_short_line(out: &mut Vec<u8>, len: usize) -> Result<(), NoMemory>
     push_text(out, &[b' ', b'0', b' ', first, tens, last, b'\r', b'\n'])
 }
 
-// Appends the rest of a `VALUE` line without a cas number. The usual flags of 0 and a short length are written faster.
-#[inline(always)]
-fn push_plain_line(out: &mut Vec<u8>, flags: u32, len: usize) -> Result<(), NoMemory>
-    ensures ok { OnOk result (out.new.items ≡ out.old.items ++ (codes " " ++ decimal flags ++ codes " " ++ decimal len ++ texts.crlf)) }
-    ensures err { OnErr result (out.new.items ≡ out.old.items) }
-{
-    if flags == 0 && len < 1000 {
-        return push_short_line(out, len);
-    }
-    push_value_line(out, flags, len, 0, false)
-}
-
 // Appends a value and CR LF. After `NoMemory` a part of the value may have been added.
 #[inline(always)]
 fn push_line(out: &mut Vec<u8>, value: &[u8]) -> Result<(), NoMemory>
@@ -138,45 +126,8 @@ fn push_line(out: &mut Vec<u8>, value: &[u8]) -> Result<(), NoMemory>
     push_text(out, b"\r\n".as_slice())
 }
 
-// Appends what follows the key in a value's text, without a cas number.
-fn push_plain_tail(out: &mut Vec<u8>, flags: u32, value: &[u8]) -> Result<(), NoMemory>
-    ensures ok { OnOk result (out.new.items ≡ out.old.items ++ (codes " " ++ decimal flags ++ codes " " ++ decimal (length value.now) ++ texts.crlf ++ value.now
-        ++ texts.crlf)) }
-    ensures err { OnErr result (out.new.items ≡ out.old.items) }
-{
-    let before = out.len();
-    push_plain_line(out, flags, value.len())?;
-    match push_line(out, value) {
-        Ok(()) => Ok(()),
-        Err(fault) => {
-            out.truncate(before);
-            Err(fault)
-        }
-    }
-}
-
-// Appends what follows the key in a value's text, with its cas number.
-fn push_cas_tail(out: &mut Vec<u8>, flags: u32, value: &[u8], cas: u64) -> Result<(), NoMemory>
-    ensures ok { OnOk result (out.new.items ≡ out.old.items ++ (codes " " ++ decimal flags ++ codes " " ++ decimal (length value.now) ++ codes " "
-        ++ decimal cas ++ texts.crlf ++ value.now ++ texts.crlf)) }
-    ensures err { OnErr result (out.new.items ≡ out.old.items) }
-{
-    let mut for_flags = Buffer::new();
-    let mut for_len = Buffer::new();
-    let mut for_cas = Buffer::new();
-    let flags = for_flags.format(flags).as_bytes();
-    let len = for_len.format(value.len()).as_bytes();
-    let cas = for_cas.format(cas).as_bytes();
-    let space = b" ".as_slice();
-    let crlf = b"\r\n".as_slice();
-    push_parts(
-        out,
-        &[space, flags, space, len, space, cas, crlf, value, crlf],
-    )
-}
-
-/// Appends the rest of a `VALUE` line: flags, number of bytes, and for `gets` the cas number. After `NoMemory` nothing is added.
-pub(crate) fn push_value_line(
+// Appends the rest of any `VALUE` line.
+fn push_any_line(
     out: &mut Vec<u8>,
     flags: u32,
     len: usize,
@@ -202,6 +153,26 @@ pub(crate) fn push_value_line(
     }
 }
 
+/// Appends the rest of a `VALUE` line: flags, number of bytes, and for `gets` the cas number. The usual flags of 0 and a short
+/// length are written faster. After `NoMemory` nothing is added.
+#[inline(always)]
+pub(crate) fn push_value_line(
+    out: &mut Vec<u8>,
+    flags: u32,
+    len: usize,
+    cas: u64,
+    with_cas: bool,
+) -> Result<(), NoMemory>
+    ensures ok { OnOk result (out.new.items ≡ out.old.items ++ (codes " " ++ decimal flags ++ codes " " ++ decimal len ++ texts.cas_text with_cas cas
+        ++ texts.crlf)) }
+    ensures err { OnErr result (out.new.items ≡ out.old.items) }
+{
+    if !with_cas && flags == 0 && len < 1000 {
+        return push_short_line(out, len);
+    }
+    push_any_line(out, flags, len, cas, with_cas)
+}
+
 // More bytes than a value's text has around the value, with the `END` of a get. Room for all of it is made first, so that a long
 // text grows at most once, and isn't copied with the value in it.
 const AROUND: usize = 64;
@@ -218,10 +189,14 @@ pub fn push_value_tail(out: &mut Vec<u8>, reply: &Reply, with_cas: bool) -> Resu
     };
     let bytes = value.bytes();
     make_room(out, bytes.len() + AROUND)?;
-    if with_cas {
-        push_cas_tail(out, *flags, bytes, *cas)
-    } else {
-        push_plain_tail(out, *flags, bytes)
+    let before = out.len();
+    push_value_line(out, *flags, bytes.len(), *cas, with_cas)?;
+    match push_line(out, bytes) {
+        Ok(()) => Ok(()),
+        Err(fault) => {
+            out.truncate(before);
+            Err(fault)
+        }
     }
 }
 
@@ -260,25 +235,27 @@ pub fn fault_text(alloc: Global, why: LineFault) -> Result<Vec<u8>, NoMemory>
     Ok(out)
 }
 
+// Appends a word, two numbers, and CR LF.
+fn push_pair(out: &mut Vec<u8>, word: &[u8], first: u64, second: u64) -> Result<(), NoMemory>
+    ensures ok { OnOk result (out.new.items ≡ out.old.items ++ (word.now ++ decimal first ++ codes " " ++ decimal second ++ texts.crlf)) }
+    ensures err { OnErr result (out.new.items ≡ out.old.items) }
+{
+    let mut for_first = Buffer::new();
+    let mut for_second = Buffer::new();
+    let first = for_first.format(first).as_bytes();
+    let second = for_second.format(second).as_bytes();
+    push_parts(
+        out,
+        &[word, first, b" ".as_slice(), second, b"\r\n".as_slice()],
+    )
+}
+
 /// Appends the text of `%juggle`: how many entries were reclaimed, and how many moved. After `NoMemory` nothing is added.
 pub fn push_moves(out: &mut Vec<u8>, moves: &Moves) -> Result<(), NoMemory>
     ensures ok { OnOk result (out.new.items ≡ out.old.items ++ texts.moves_text moves.now) }
     ensures err { OnErr result (out.new.items ≡ out.old.items) }
 {
-    let mut for_reclaimed = Buffer::new();
-    let mut for_moved = Buffer::new();
-    let reclaimed = for_reclaimed.format(moves.reclaimed).as_bytes();
-    let moved = for_moved.format(moves.moved).as_bytes();
-    push_parts(
-        out,
-        &[
-            b"JUGGLED ".as_slice(),
-            reclaimed,
-            b" ".as_slice(),
-            moved,
-            b"\r\n".as_slice(),
-        ],
-    )
+    push_pair(out, b"JUGGLED ".as_slice(), moves.reclaimed, moves.moved)
 }
 
 /// Returns the text of `%juggle`: how many entries were reclaimed, and how many moved. *Errors*: `NoMemory` if memory is refused.
@@ -295,20 +272,7 @@ pub fn push_chunks(out: &mut Vec<u8>, class: ClassNo, chunks: u64) -> Result<(),
     ensures ok { OnOk result (out.new.items ≡ out.old.items ++ texts.chunks_text class chunks) }
     ensures err { OnErr result (out.new.items ≡ out.old.items) }
 {
-    let mut for_class = Buffer::new();
-    let mut for_chunks = Buffer::new();
-    let class = for_class.format(class.0).as_bytes();
-    let chunks = for_chunks.format(chunks).as_bytes();
-    push_parts(
-        out,
-        &[
-            b"CHUNKS ".as_slice(),
-            class,
-            b" ".as_slice(),
-            chunks,
-            b"\r\n".as_slice(),
-        ],
-    )
+    push_pair(out, b"CHUNKS ".as_slice(), class.0 as u64, chunks)
 }
 
 /// Returns the text of `%chunks`: the slab class, and its new limit of chunks. *Errors*: `NoMemory` if memory is refused.
