@@ -48,8 +48,7 @@ pub(crate) fn add<N: NamesEvents, A>(
     requires board { place.old.table_id ≡ board.now.table }
     requires owner { IsOwnerAt word stages.Still place.old.me }
     requires word { word < board.now.table.words }
-    requires count { (0 < count) × (count ≡ length N.entries) }
-    requires room { length (owned_of place.old.me.0).history + count < 2 ^ 63 }
+    requires count { (0 < count) × (count ≡ length N.entries) × (length (owned_of place.old.me.0).history + count < 2 ^ 63) }
     requires plain { class_events N.entries ≡ [] }
     requires shown { AreShown (owned_of place.old.me.0) N.entries }
     ensures place { (place.new.table_id ≡ place.old.table_id) × (place.new.id ≡ place.old.id) }

@@ -4,7 +4,7 @@ ghost use Rattle.std.specs.List.{list_all};
 ghost use Rattle.mc_item.specs.Config.{is_limit, is_size, fault_of, IsBounded, IsSound, usual_config, usual_sizes};
 
 use crate::fault::NoMemory;
-use crate::numbers::Numbers;
+use crate::numbers::{MAX_CLASSES, Numbers};
 use std::alloc::Global;
 
 /// What a store is made with. `sizes` and `chunks` have one number for each slab class. Percents are of the bytes of HOT, WARM
@@ -67,7 +67,7 @@ fn chunks_of(alloc: Global) -> Result<Numbers, NoMemory>
 fn are_sizes(sizes: &[u64]) -> bool
     ensures { result ≡ Rattle.mc_item.specs.Config.are_sizes sizes.now }
 {
-    !sizes.is_empty() && sizes.len() <= 63 && are_in_range(sizes) && is_rising(sizes)
+    !sizes.is_empty() && sizes.len() <= MAX_CLASSES && are_in_range(sizes) && is_rising(sizes)
 }
 
 fn are_limits(chunks: &[u64]) -> bool

@@ -1,13 +1,10 @@
 //! The rows of `incr` and `decr` in the table of commands.
-ghost use Rattle.std.specs.Prelude.{◌≡◌, ◌+◌, ◌*◌, ◌<◌, ◌≤◌, ◌^◌, ◌++◌, IfOk, IfSome, IfNone, Some, OnOk, None, length, ℕ, Option, replicate, decimal};
+ghost use Rattle.std.specs.Prelude.{◌≡◌, ◌+◌, ◌<◌, ◌≤◌, ◌^◌, ◌++◌, IfOk, IfSome, Some, OnOk, None, length, ℕ, Option, replicate, decimal};
 ghost use Rattle.std.specs.Option.{option_copied, option_map};
 ghost use Rattle.mc_item.specs.Answer as answers;
 ghost use Rattle.mc_item.specs.Cache as caches;
 ghost use Rattle.mc_item.specs.Measure as measure;
 ghost use Rattle.mc_item.specs.Measure.{IsClassAmong, IsNeedOf};
-ghost use Rattle.mc_item.specs.declared.item.Link.{Link};
-ghost use Rattle.mc_item.specs.declared.reply.Reply.TheVariants as replies;
-ghost use Rattle.mc_item.specs.declared.answer.Change.TheVariants as changes;
 ghost use Rattle.mc_item.specs.declared.answer.Need.TheVariants as needs;
 
 use crate::answer::{Answer, Change, Need, Site};
@@ -125,15 +122,6 @@ impl Item {
 }
 
 impl Site {
-    // The class for an item with this key and a value of this many digits.
-    fn class_of_digits(&self, key: &Key, digits: usize) -> Option<ClassNo>
-        requires { digits ≤ 20 }
-        ensures value { result ≡ measure.class_of self.now.sizes (64 + length key.now + digits) }
-        ensures bound { IfSome result (IsClassAmong self.now.sizes) }
-    {
-        self.class_of(cost(key.bytes().len() as u64, digits as u64))
-    }
-
     // The class for a cost, which is looked up only if it isn't known.
     #[inline(always)]
     fn class_for(&self, known: Option<ClassNo>, cost: u64) -> Option<ClassNo>
@@ -158,7 +146,7 @@ impl Site {
         if digits <= item.value.bytes().len() {
             return Need::Same;
         }
-        match self.class_of_digits(key, digits) {
+        match self.class_of(cost(key.bytes().len() as u64, digits as u64)) {
             Some(class) => Need::Fresh(class),
             None => Need::TooLarge,
         }

@@ -77,15 +77,8 @@ fn put_padded(bytes: &mut [u8], text: &[u8]) -> bool
     }
     let (front, back) = bytes.split_at_mut(text.len());
     front.copy_from_slice(text);
-    put_spaces(back);
+    back.fill(b' ');
     true
-}
-
-#[inline(always)]
-fn put_spaces(bytes: &mut [u8])
-    ensures { bytes.new ≡ replicate (length bytes.old) 32 }
-{
-    bytes.fill(b' ');
 }
 
 impl Value {

@@ -9,5 +9,5 @@ fetch_add-requires g c =
     let same = figures_of-plain (owned_of c.args.place.now.me.0).history g.N.NamesEvents.entries c.requires.plain in (
       c.requires.board ∙ table,
       subst (λ t. c.args.word < t.words) table c.requires.word,
-      adds_as _ _ _ _ c.args.count _ g.N.NamesEvents.entries c.requires.owner c.requires.count.0 c.requires.count.1 c.requires.room same c.requires.shown,
+      adds_as _ _ _ _ c.args.count _ g.N.NamesEvents.entries c.requires.owner c.requires.count.0 c.requires.count.1 c.requires.count.2 same c.requires.shown,
     )
