@@ -24,6 +24,7 @@ mod playing;
 mod running;
 mod schedules;
 mod sharing;
+mod telling;
 mod upkeep;
 mod watching;
 

@@ -134,14 +134,14 @@ impl Plain {
         cas
     }
 
-    // Stores a new version of a key's item.
+    // Stores a new version of a key's item, and says so.
     fn put(
         &mut self,
         key: &[u8],
         flags: u32,
         value: &[u8],
         end: Option<u64>,
-    ) -> Result<(), NoMemory> {
+    ) -> Result<Reply, NoMemory> {
         let _old = self.take(key);
         let cas = self.next_cas();
         let kept = Kept::of(self.alloc, key, value)?;
@@ -151,7 +151,7 @@ impl Plain {
             cas,
             ..kept
         })?;
-        Ok(())
+        Ok(Reply::Stored)
     }
 
     fn get(&self, key: &[u8]) -> Result<Reply, NoMemory> {
@@ -192,8 +192,7 @@ impl Plain {
         if refused {
             return Ok(Reply::NoRoom);
         }
-        self.put(key, flags, value.as_slice(), end)?;
-        Ok(Reply::Stored)
+        self.put(key, flags, value.as_slice(), end)
     }
 
     fn cas_of(&self, key: &[u8]) -> Option<u64> {
@@ -210,22 +209,6 @@ impl Plain {
             return Some(self.failed(verb, key, Reply::NoRoom));
         }
         unmet
-    }
-
-    fn store(
-        &mut self,
-        verb: Verb,
-        key: &[u8],
-        flags: u32,
-        end: Option<u64>,
-        value: &[u8],
-        refused: bool,
-    ) -> Result<Reply, NoMemory> {
-        if let Some(reply) = self.hindered(verb, key, value.len(), refused) {
-            return Ok(reply);
-        }
-        self.put(key, flags, value, end)?;
-        Ok(Reply::Stored)
     }
 
     // An incr or decr (protocol.txt, "Increment/Decrement"). If the number is shorter than the old value, spaces fill the rest.
@@ -246,24 +229,11 @@ impl Plain {
         let flags = kept.flags;
         let end = kept.end;
         let number = counted(old, up, delta);
-        self.recount(key, number, len, flags, end, refused)
-    }
-
-    // Stores a number in place of a value of this length, if it isn't longer or a chunk is found.
-    fn recount(
-        &mut self,
-        key: &[u8],
-        number: u64,
-        len: usize,
-        flags: u32,
-        end: Option<u64>,
-        refused: bool,
-    ) -> Result<Reply, NoMemory> {
         let text = numeral(self.alloc, number, len)?;
         if text.len() > len && (refused || is_too_large(key, text.len())) {
             return Ok(Reply::NoSpace);
         }
-        self.put(key, flags, text.as_slice(), end)?;
+        let _stored = self.put(key, flags, text.as_slice(), end)?;
         Ok(Reply::Number(number))
     }
 
@@ -324,10 +294,10 @@ impl Plain {
             } => match verb {
                 Verb::Append => self.join(key, value.bytes(), false, refused),
                 Verb::Prepend => self.join(key, value.bytes(), true, refused),
-                _ => {
-                    let end = end_of(*exptime, moment);
-                    self.store(*verb, key, *flags, end, value.bytes(), refused)
-                }
+                _ => match self.hindered(*verb, key, value.bytes().len(), refused) {
+                    Some(reply) => Ok(reply),
+                    None => self.put(key, *flags, value.bytes(), end_of(*exptime, moment)),
+                },
             },
             Command::Huge { verb, .. } => Ok(self.failed(*verb, key, Reply::TooLarge)),
             Command::Incr(_, delta) => self.count(key, true, *delta, refused),

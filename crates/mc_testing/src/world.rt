@@ -1,6 +1,5 @@
 //! A store of one stripe and one class without locks, which tests fill by hand.
-ghost use Rattle.std.specs.Prelude.{◌≡◌, IfOk};
-ghost use Rattle.mc_item.specs.Config.{IsSound, IsBounded};
+ghost use Rattle.std.specs.Prelude.{◌≡◌};
 ghost use Rattle.mc_testing.specs.World.{IsWorld};
 
 use crate::commands::storage;

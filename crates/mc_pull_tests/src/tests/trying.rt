@@ -115,41 +115,33 @@ fn try_lent(
     match lend {
         Lend::Nothing => attempt_none(&mut pair.stripe, command, turn),
         Lend::Home => {
-            let given = Given {
-                home: Some(offer_home(&pair.first, refused, turn)),
-                other: None,
-            };
+            let home = Some(offer_home(&pair.first, refused, turn));
             let attempt = Attempt {
                 alloc,
                 command,
                 turn,
-                given,
+                given: Given { home, other: None },
             };
             attempt_one(attempt, &mut pair.stripe, &mut pair.first)
         }
         Lend::Other => {
-            let given = Given {
-                home: None,
-                other: Some(offer_other(&pair.first)),
-            };
+            let other = Some(offer_other(&pair.first));
             let attempt = Attempt {
                 alloc,
                 command,
                 turn,
-                given,
+                given: Given { home: None, other },
             };
             attempt_one(attempt, &mut pair.stripe, &mut pair.first)
         }
         Lend::Both => {
-            let given = Given {
-                home: Some(offer_home(&pair.second, None, turn)),
-                other: Some(offer_other(&pair.first)),
-            };
+            let home = Some(offer_home(&pair.second, None, turn));
+            let other = Some(offer_other(&pair.first));
             let attempt = Attempt {
                 alloc,
                 command,
                 turn,
-                given,
+                given: Given { home, other },
             };
             attempt_two(attempt, &mut pair.stripe, &mut pair.second, &mut pair.first)
         }

@@ -32,19 +32,6 @@ pub(super) enum Ask {
     Huge,
 }
 
-// A storage command that stores a text.
-fn store<R: Abort>(
-    rt: &R,
-    alloc: Global,
-    verb: Verb,
-    letter: u8,
-    flags: u32,
-    exptime: i64,
-    text: &str,
-) -> Command {
-    try_storage(alloc, verb, letter, flags, exptime, text.as_bytes()).expect(rt, "a command")
-}
-
 // A command that stores no text, or a get.
 fn other_of<R: Abort>(rt: &R, alloc: Global, letter: u8, ask: Ask) -> Command {
     let key = try_key(alloc, letter).expect(rt, "a key");
@@ -70,12 +57,13 @@ pub(super) fn command_of<R: Abort>(
     ask: Ask,
     shown: u64,
 ) -> Command {
-    match ask {
-        Ask::Store(verb, flags, text) => store(rt, alloc, verb, letter, flags, 0, text),
-        Ask::Expiring(exptime, text) => store(rt, alloc, Verb::Set, letter, 0, exptime, text),
-        Ask::Cas(text) => store(rt, alloc, Verb::Cas(shown), letter, 0, 0, text),
-        other => other_of(rt, alloc, letter, other),
-    }
+    let (verb, flags, exptime, text) = match ask {
+        Ask::Store(verb, flags, text) => (verb, flags, 0, text),
+        Ask::Expiring(exptime, text) => (Verb::Set, 0, exptime, text),
+        Ask::Cas(text) => (Verb::Cas(shown), 0, 0, text),
+        other => return other_of(rt, alloc, letter, other),
+    };
+    try_storage(alloc, verb, letter, flags, exptime, text.as_bytes()).expect(rt, "a command")
 }
 
 /// What a command is answered.

@@ -196,6 +196,13 @@ fn check_reads<N: Named, R: Abort>(
     }
 }
 
+// What the last caller does before the threads start, and once they have ended.
+#[derive(Clone, Copy)]
+struct Rows<'a> {
+    before: &'a [Row],
+    behind: &'a [Row],
+}
+
 // A caller makes the rows before, a thread of each other caller does its job, and the caller makes the rows behind. Then the
 // store is closed and held against all passes.
 fn share_store<N: Named + Send + Sync, R: Threads + Abort + Wait + Sync>(
@@ -204,8 +211,7 @@ fn share_store<N: Named + Send + Sync, R: Threads + Abort + Wait + Sync>(
     parts: Parts,
     shape: Shape,
     job: &Job,
-    before: &[Row],
-    behind: &[Row],
+    rows: Rows<'_>,
 )
     requires named { (parts.tokens.board ≡ N.board) × (parts.config ≡ N.config) × (parts.tokens.queues ≡ N.queues) }
     requires fit { AreParts N.board N.config N.queues parts.tokens }
@@ -214,9 +220,9 @@ fn share_store<N: Named + Send + Sync, R: Threads + Abort + Wait + Sync>(
 {
     let (store, mut passes) = opened::<N, R>(rt, alloc, parts);
     let mut own = last_of(rt, alloc, &mut passes);
-    check_rows(rt, alloc, &store, &mut own, shape, before);
+    check_rows(rt, alloc, &store, &mut own, shape, rows.before);
     let mut works = at_once(rt, alloc, &store, passes, job);
-    check_rows(rt, alloc, &store, &mut own, shape, behind);
+    check_rows(rt, alloc, &store, &mut own, shape, rows.behind);
     meet(rt, &store, &mut works);
     let mut threads = calls_of(rt, alloc, &mut works);
     let mut ledger = store.close();
@@ -244,5 +250,5 @@ pub(super) fn share<R: Threads + Abort + Wait + RandomSource + Sync>(
         ended: AtomicU64::new(0),
     };
     let parts = parts_for(rt, alloc, config);
-    share_store::<Brand, R>(rt, alloc, parts, shape, &job, before, behind);
+    share_store::<Brand, R>(rt, alloc, parts, shape, &job, Rows { before, behind });
 }

@@ -4,12 +4,12 @@ use super::calls::asserts_owned;
 use super::texts::{text, text_of_item};
 use super::trying::Held::{Home, Nothing};
 use super::trying::Lent::Link;
-use super::trying::{Held, events, given_of, opened, try_command};
+use super::trying::{Held, events, given_of, opened, try_command, turn_at};
 use super::value;
 use super::wants::{Told, check_want};
 use mc_item::{Command, Key, Verb};
-use mc_stripe::{Classes, StripeState, Turn, Want};
-use mc_testing::{WHO, may_give};
+use mc_stripe::{Classes, StripeState, Want};
+use mc_testing::may_give;
 use std::alloc::Global;
 use std::process::Abort;
 use std::random::RandomSource;
@@ -47,11 +47,8 @@ fn set<R: Abort>(
     };
     let class = if text.len() < 2 { 1 } else { 2 };
     let given = given_of(Home(class, Link, 2), events(stripe));
-    let turn = Turn {
-        who: WHO,
-        moment: 1000,
-    };
-    asserts_owned(rt, stripe, &command, 1000);
+    let turn = turn_at(1000);
+    asserts_owned(rt, stripe, &command, turn.moment);
     assert!(rt; may_give(given, stripe.history()));
     let got = stripe
         .attempt(&command, turn, &given)
@@ -71,7 +68,7 @@ fn begun<R: Abort + RandomSource>(rt: &R, alloc: Global, there: There) -> Stripe
         set(rt, alloc, &mut stripe, b"f", 0, "1");
     }
     if let Some((_, true)) = there {
-        let _hit = try_command(rt, alloc, &mut stripe, WHO, Get, 1000, Nothing);
+        let _hit = try_command(rt, alloc, &mut stripe, turn_at(1000), Get, Nothing);
     }
     stripe
 }
@@ -102,10 +99,10 @@ fn check_row<R: Abort + RandomSource>(rt: &R, alloc: Global, row: &Row, place: u
     let mut stripe = begun(rt, alloc, there);
     let before = text_of_item(rt, alloc, &stripe);
     if classes != NOTHING {
-        let got = try_command(rt, alloc, &mut stripe, WHO, asked, 1000, Nothing);
+        let got = try_command(rt, alloc, &mut stripe, turn_at(1000), asked, Nothing);
         check_want(rt, &got, Want::Classes(classes));
     }
-    let got = try_command(rt, alloc, &mut stripe, WHO, asked, 1000, held);
+    let got = try_command(rt, alloc, &mut stripe, turn_at(1000), asked, held);
     let answer = answer_text(rt, alloc, &stripe, &got, before.as_str());
     assert_eq!(rt; answer.as_str(), wanted, "at row {place}");
 }

@@ -22,38 +22,36 @@ pub(super) fn asserts_owned<R: Abort>(rt: &R, stripe: &StripeState, command: &Co
     assert!(rt; stripe.owns(command.key()));
 }
 
-// What a caller's command tells, which is given the classes that it wants.
+// What a command in a caller's turn tells, which is given the classes that it wants.
 fn try_with_classes<R: Abort>(
     rt: &R,
     alloc: Global,
     stripe: &mut StripeState,
-    who: Who,
+    turn: Turn,
     asked: Asked,
-    moment: u64,
     lent: Lent,
 ) -> Result<Result<Done, Want>, Fault> {
-    match try_command(rt, alloc, stripe, who, asked, moment, Held::Nothing) {
+    match try_command(rt, alloc, stripe, turn, asked, Held::Nothing) {
         Ok(Err(Want::Classes(classes))) => {
             let held = held_of(classes, lent, 2);
-            try_command(rt, alloc, stripe, who, asked, moment, held)
+            try_command(rt, alloc, stripe, turn, asked, held)
         }
         told => told,
     }
 }
 
-/// The reply to a caller's command, which is given the classes that it wants; or what else is wanted, or the fault. A class gives
+/// The reply to a command in a caller's turn, which is given the classes that it wants; or what else is wanted, or the fault. A class gives
 /// the link that has the number of the event; where it is full, a refusal.
 pub(super) fn text_of_reply<R: Abort>(
     rt: &R,
     alloc: Global,
     stripe: &mut StripeState,
-    who: Who,
+    turn: Turn,
     asked: Asked,
-    moment: u64,
     full: bool,
 ) -> String {
     let lent = if full { Lent::Refusal } else { Lent::Link };
-    match try_with_classes(rt, alloc, stripe, who, asked, moment, lent) {
+    match try_with_classes(rt, alloc, stripe, turn, asked, lent) {
         Ok(Ok(done)) => reply_text(rt, alloc, &done.reply),
         Ok(Err(want)) => want_text(rt, alloc, want),
         Err(fault) => fault_text(rt, alloc, fault),

@@ -3,7 +3,7 @@
 use super::Asked::{self, Decr, Delete, Gat, Get, Huge, Incr, Store, StoreUntil, Touch};
 use super::calls::{expire, is_dead_at};
 use super::texts::reply_text;
-use super::trying::{Held, Lent, held_of, opened_up_to, try_command};
+use super::trying::{Held, Lent, held_of, opened_up_to, try_command, turn_at};
 use super::{SEED, b, command_of};
 use mc_item::{Cause, Reply, Verb};
 use mc_stripe::{StripeState, Want};
@@ -109,7 +109,7 @@ fn reply_to<R: Abort>(
     let Drawn { asked, lent } = drawn;
     let mut held = Held::Nothing;
     for _ in 0..7 {
-        match try_command(rt, alloc, &mut beside.stripe, WHO, asked, moment, held) {
+        match try_command(rt, alloc, &mut beside.stripe, turn_at(moment), asked, held) {
             Ok(Ok(done)) => return Some(done.reply),
             Ok(Err(want)) => {
                 if let Want::Burial(_) = want {

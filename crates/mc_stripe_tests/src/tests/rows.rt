@@ -5,10 +5,9 @@ use super::calls::{
 };
 use super::noted::text_of_event;
 use super::texts::{text, text_of_item};
-use super::trying::opened;
+use super::trying::{opened, turn_at};
 use mc_item::{Key, Who};
-use mc_stripe::StripeState;
-use mc_testing::WHO;
+use mc_stripe::{StripeState, Turn};
 use std::alloc::Global;
 use std::process::Abort;
 use std::random::RandomSource;
@@ -71,8 +70,8 @@ fn text_of_turn<R: Abort>(
     asked: Asked,
     full: bool,
 ) -> String {
-    let moment = 1000 + u64::from(turn);
-    text_of_reply(rt, alloc, stripe, nine(turn), asked, moment, full)
+    let (who, moment) = (nine(turn), 1000 + u64::from(turn));
+    text_of_reply(rt, alloc, stripe, Turn { who, moment }, asked, full)
 }
 
 fn number_text<R: Abort>(rt: &R, alloc: Global, number: u64) -> String {
@@ -87,7 +86,7 @@ fn truth<R: Abort>(rt: &R, alloc: Global, holds: bool) -> String {
 fn text_of_misses<R: Abort>(rt: &R, alloc: Global, stripe: &mut StripeState, gets: u32) -> String {
     let mut misses = 0u64;
     for _i in 0..gets {
-        let got = text_of_reply(rt, alloc, stripe, WHO, Asked::Get, 1000, false);
+        let got = text_of_reply(rt, alloc, stripe, turn_at(1000), Asked::Get, false);
         if got.as_str() == "Miss" {
             misses = misses.saturating_add(1);
         }
@@ -149,7 +148,7 @@ fn keep_up<R: Abort>(rt: &R, alloc: Global, stripe: &mut StripeState, ask: Ask) 
 // What a row does, and what it tells.
 fn tell<R: Abort>(rt: &R, alloc: Global, stripe: &mut StripeState, ask: Ask) -> String {
     match ask {
-        Ask::Answer(asked) => text_of_reply(rt, alloc, stripe, WHO, asked, 1000, false),
+        Ask::Answer(asked) => text_of_reply(rt, alloc, stripe, turn_at(1000), asked, false),
         Ask::Turn(turn, asked) => text_of_turn(rt, alloc, stripe, turn, asked, false),
         Ask::FullTurn(turn, asked) => text_of_turn(rt, alloc, stripe, turn, asked, true),
         Ask::Misses(gets) => text_of_misses(rt, alloc, stripe, gets),

@@ -3,7 +3,7 @@ use super::calls::{asserts_owned, fault_text};
 use super::noted::{command_text, text_of_event};
 use super::texts::{reply_text, text, text_of_item};
 use super::{Asked, b, checked, command_of, four_stripes};
-use mc_item::{ClassNo, Fault, Item, Link, Marks, Room, StripeNo, Who};
+use mc_item::{ClassNo, Fault, Item, Link, Marks, Room, StripeNo};
 use mc_stripe::{Classes, Done, Fate, Given, Home, Other, StripeState, Turn, Want};
 use mc_testing::{WHO, may_give};
 use std::alloc::Global;
@@ -53,6 +53,11 @@ pub(super) fn opened_up_to<R: Abort + RandomSource>(
     let config = checked(rt, four_stripes(rt, alloc, largest));
     let seed = RandomState::new(rt).expect(rt, "a seed");
     StripeState::new(alloc, StripeNo(1), &config, seed)
+}
+
+/// The turn of `WHO`, at a moment.
+pub(super) fn turn_at(moment: u64) -> Turn {
+    Turn { who: WHO, moment }
 }
 
 /// How many events a stripe has.
@@ -241,21 +246,19 @@ fn check_open<R: Abort>(rt: &R, before: &Seen, now: &Seen) {
     assert_eq!(rt; now.item.as_str(), before.item.as_str());
 }
 
-/// What the try of a caller's command tells. The test ends where something else happened.
+/// What the try of a command in a caller's turn tells. The test ends where something else happened.
 pub(super) fn try_command<R: Abort>(
     rt: &R,
     alloc: Global,
     stripe: &mut StripeState,
-    who: Who,
+    turn: Turn,
     asked: Asked,
-    moment: u64,
     held: Held,
 ) -> Result<Result<Done, Want>, Fault> {
     let command = command_of(rt, alloc, asked);
     let given = given_of(held, events(stripe));
-    asserts_owned(rt, stripe, &command, moment);
+    asserts_owned(rt, stripe, &command, turn.moment);
     assert!(rt; may_give(given, stripe.history()));
-    let turn = Turn { who, moment };
     let before = seen_now(rt, alloc, stripe);
     let got = stripe.attempt(&command, turn, &given);
     match &got {
@@ -325,7 +328,7 @@ fn row_texts<R: Abort>(
 ) -> (String, String) {
     let (asked, held, got) = row;
     let wanted = wanted_text(rt, alloc, got, held, events(stripe));
-    let got = try_command(rt, alloc, stripe, WHO, asked, moment, held);
+    let got = try_command(rt, alloc, stripe, turn_at(moment), asked, held);
     (text_of_text(rt, alloc, &got), wanted)
 }
 

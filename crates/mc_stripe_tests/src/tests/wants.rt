@@ -5,7 +5,7 @@ use super::calls::expire;
 use super::rows::Ask::{Answer, Events};
 use super::rows::check_rows;
 use super::tries::{GROWN, NEW_1, NEW_2, OLD, OVER_1, OVER_2};
-use super::trying::{Held, Lent, held_of, opened, try_command};
+use super::trying::{Held, Lent, held_of, opened, try_command, turn_at};
 use super::{Asked, rows};
 use mc_item::Need::{Fresh, Nothing, Same, TooLarge};
 use mc_item::{ClassNo, Fault, Link, Need, Verb};
@@ -143,7 +143,8 @@ fn begun<R: Abort + RandomSource>(
     let mut stripe = opened(rt, alloc);
     check_rows(rt, alloc, &mut stripe, rows);
     if let Some(link) = dead {
-        let got = try_command(rt, alloc, &mut stripe, WHO, asked, moment, Held::Nothing);
+        let turn = turn_at(moment);
+        let got = try_command(rt, alloc, &mut stripe, turn, asked, Held::Nothing);
         check_want(rt, &got, Want::Burial(link));
         expire(rt, alloc, &mut stripe, WHO, moment);
     }
@@ -177,15 +178,15 @@ fn check_lent<R: Abort + RandomSource>(
     lent: Lent,
     fate: Fate,
 ) {
-    let asked = row.0;
+    let (asked, turn) = (row.0, turn_at(state.1));
     let mut stripe = begun(rt, alloc, state, asked);
     let classes = classes_in(row);
     if classes.home.is_some() || classes.other.is_some() {
-        let got = try_command(rt, alloc, &mut stripe, WHO, asked, state.1, Held::Nothing);
+        let got = try_command(rt, alloc, &mut stripe, turn, asked, Held::Nothing);
         check_want(rt, &got, Want::Classes(classes));
     }
     let held = held_of(classes, lent, 2);
-    let got = try_command(rt, alloc, &mut stripe, WHO, asked, state.1, held);
+    let got = try_command(rt, alloc, &mut stripe, turn, asked, held);
     check_fate(rt, &got, fate);
 }
 
