@@ -4,7 +4,7 @@ ghost use Rattle.std.specs.Option.{option_copied, option_map};
 ghost use Rattle.mc_item.specs.Answer as answers;
 ghost use Rattle.mc_item.specs.Cache as caches;
 ghost use Rattle.mc_item.specs.Measure as measure;
-ghost use Rattle.mc_item.specs.Measure.{IsClassAmong, IsNeedOf};
+ghost use Rattle.mc_item.specs.Measure.{IsNeedOf};
 ghost use Rattle.mc_item.specs.declared.answer.Need.TheVariants as needs;
 
 use crate::answer::{Answer, Change, Need, Site};

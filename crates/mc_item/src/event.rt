@@ -37,7 +37,7 @@ impl Logged for CallEvent {
 }
 
 impl<'a> Logged for Asking<'a> {
-    ghost use Rattle.mc_item.specs.declared.{call_event.Asked.Asked, event.Event.TheVariants.Call};
+    ghost use Rattle.mc_item.specs.declared.event.Event.TheVariants.{Call};
     ghost use Rattle.mc_item.specs.declared.call_event.CallEvent.TheVariants as calls;
 
     ghost entry = { λ a. Call (calls.Asked (record { command = a.command.now; moment = a.moment })) };

@@ -1,5 +1,5 @@
 //! The size, slab class and stripe of an item, and which values are numbers. Rules marked (own) are this project's.
-ghost use Rattle.std.specs.Prelude.{◌≡◌, ◌+◌, ◌-◌, ◌<◌, ◌≤◌, ◌^◌, ℕ, None, IfSome, IfNone, All, MatchOption, get_or, length, take};
+ghost use Rattle.std.specs.Prelude.{◌≡◌, ◌+◌, ◌-◌, ◌<◌, ◌≤◌, ◌^◌, ℕ, None, IfSome, IfNone, All, MatchOption, get_or, length};
 ghost use Rattle.std.specs.List.{prefix_len, position, list_all};
 ghost use Rattle.std.specs.Prelude.{nat_le, ◌==◌};
 ghost use Rattle.mc_item.specs.Measure as measure;

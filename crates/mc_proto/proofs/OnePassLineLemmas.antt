@@ -1,13 +1,13 @@
 -- Lines of a verb, one space, and tokens.
-use Rattle.std.proofs.Common.{◌≡◌, ◌==◌, ◌∷◌, [], ◌≤◌, ◌∙◌, ℕ, ℤ, List, true, false, ap, refl, sym, codes, length, eqb-true}
+use Rattle.std.proofs.Common.{◌≡◌, ◌∷◌, [], ◌≤◌, ◌∙◌, ℕ, ℤ, List, true, false, ap, refl, codes}
 use Rattle.std.specs.Prelude.{Bool, Some, MatchOption, nat_le, if◌then◌else◌}
 use Rattle.std.proofs.lemmas.Bool.{le-leb}
 use Rattle.mc_item.specs.declared.command.Command.TheVariants as commands
 use Rattle.mc_item.specs.declared.{command.Verb.Verb}
 use Rattle.mc_item.specs.declared.command.Verb.TheVariants.{Set, Add, Replace, Cas, Append, Prepend}
 use Rattle.mc_proto.specs.Kinds as kinds
-use Rattle.mc_proto.specs.{Lines.tokens, Lines.number, Lines.number_up_to, Lines.up_to, Lines.exptime, Lines.is_key, Lines.key_of_token, Words.store_word}
-use Rattle.mc_proto.specs.Table.{tokens_say, row_says, Noreply, store, begun, count, one}
+use Rattle.mc_proto.specs.{Lines.no_cr, Lines.tokens, Lines.number, Lines.number_up_to, Lines.up_to, Lines.exptime, Lines.is_key, Lines.key_of_token, Words.store_word}
+use Rattle.mc_proto.specs.Table.{says, tokens_say, row_says, Noreply, store, begun, count, one}
 use Rattle.mc_proto.specs.declared.{request.Limits.Limits, request.Request.TheVariants.Gat, state.Said.TheVariants.Whole}
 
 within : (limit n : ℕ) → n ≤ limit → up_to limit (Some n) ≡ Some n
@@ -15,6 +15,11 @@ within limit n le = let least : nat_le n limit ≡ true = le-leb n limit le in r
 
 pub number_within : (limit n : ℕ) (t : List ℕ) → number 20 t ≡ Some n → n ≤ limit → number_up_to limit t ≡ Some n
 number_within limit n t is le = ap (up_to limit) is ∙ within limit n le
+
+-- what a line says is what its tokens say
+pub says_tokens : (limits : Limits) (line : List ℕ) → tokens_say limits (tokens (no_cr line)) ≡ says limits line
+unfolding says
+says_tokens limits line = refl
 
 -- what ends a line that may be quiet
 abbrev pub quiet_tokens : Bool → List (List ℕ)
@@ -57,11 +62,6 @@ counted_row true limits key k d delta false a b = rw (a, b) refl
 counted_row true limits key k d delta true a b = rw (a, b) refl
 counted_row false limits key k d delta false a b = rw (a, b) refl
 counted_row false limits key k d delta true a b = rw (a, b) refl
-
--- a line of no bytes is empty
-pub none_left : (line : List ℕ) → true ≡ (length line == 0) → line ≡ []
-none_left [] is = refl
-none_left (x ∷ line) is = let none = eqb-true (length (x ∷ line)) 0 (sym is) in absurd (cc none)
 
 -- the verb of a gat, with or without cas numbers
 abbrev pub gat_verb : Bool → List ℕ

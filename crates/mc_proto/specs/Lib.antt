@@ -4,6 +4,7 @@ pub mod Kinds
 pub mod Table
 pub mod Words
 pub mod Grammar
+pub mod Brief
 pub mod Reader
 pub mod Scripts
 pub mod Uncut

@@ -1,5 +1,5 @@
 //! Reads the lines of incr, decr, touch and delete, given the tokens after the verb.
-ghost use Rattle.std.specs.Prelude.{◌≡◌, ◌∷◌, [], IfOk, map};
+ghost use Rattle.std.specs.Prelude.{◌≡◌, ◌∷◌, [], IfOk, if◌then◌else◌, map};
 ghost use Rattle.mc_proto.specs.{Grammar.IsFine, Table.row_says, Table.Noreply};
 ghost use Rattle.mc_proto.specs.Kinds as kinds;
 ghost use Rattle.mc_proto.specs.Table as table;
@@ -13,16 +13,15 @@ use crate::token::{exptime, key_of_token, number_up_to};
 use mc_item::{Command, Key, NoMemory};
 use std::alloc::Global;
 
-/// Returns what a good line says: incr if `up`, otherwise decr.
+/// Returns the command of a good line: incr if `up`, otherwise decr.
 #[inline(always)]
-pub fn count(up: bool, key: Key, delta: u64, quiet: bool) -> Said
-    ensures value { result ≡ table.count up key delta quiet }
-    ensures fine { (limits : Limits) → IsFine limits result }
+pub fn counting(up: bool, key: Key, delta: u64) -> Command
+    ensures { result ≡ (if up then commands.Incr key delta else commands.Decr key delta) }
 {
     if up {
-        one(quiet, Command::Incr(key, delta))
+        Command::Incr(key, delta)
     } else {
-        one(quiet, Command::Decr(key, delta))
+        Command::Decr(key, delta)
     }
 }
 
@@ -44,7 +43,7 @@ pub fn count_line(alloc: Global, up: bool, args: &[&[u8]]) -> Result<Said, NoMem
     let Some(delta) = number_up_to(u64::MAX, *delta) else {
         return Ok(bad(LineFault::Delta, quiet));
     };
-    Ok(count(up, key, delta, quiet))
+    Ok(one(quiet, counting(up, key, delta)))
 }
 
 /// Reads the tokens after `touch`: key and exptime, and perhaps noreply.

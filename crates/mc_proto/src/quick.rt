@@ -1,7 +1,7 @@
 //! Reads the most frequent lines in one pass: get of one key, set, add, replace, append and prepend, if they begin with the verb
 //! and a space. For other lines the answer may be `None`; then other functions read them.
 ghost use Rattle.std.specs.Prelude.{◌≡◌, ◌∷◌, ◌++◌, [], ◌↔◌, IfOk, IsTrue, IfSome, MatchOption, codes, if◌then◌else◌, false};
-ghost use Rattle.mc_proto.specs.{Grammar.IsFine, Lines.tokens, Table.tokens_say, Words.store_word};
+ghost use Rattle.mc_proto.specs.{Grammar.IsFine, Lines.tokens, Words.store_word};
 ghost use Rattle.mc_proto.specs.Table as table;
 ghost use Rattle.mc_proto.specs.declared.request.Limits.{Limits};
 ghost use Rattle.mc_proto.specs.declared.request.Request.TheVariants as requests;
@@ -80,14 +80,14 @@ pub fn quiet_end(rest: &[u8]) -> Option<bool>
     Some(true)
 }
 
-/// Reads a line `set`, `add`, `replace`, `append` or `prepend` of key, three numbers without sign and perhaps noreply. `None`
-/// says nothing about it.
+/// Reads a line `set`, `add`, `replace`, `append` or `prepend` of key, three numbers without sign and perhaps noreply, whose block
+/// is kept. `None` says nothing about the line.
 #[inline(always)]
-pub fn quick_store(alloc: Global, limits: Limits, line: &[u8]) -> Result<Option<Said>, NoMemory>
-    ensures value { IfOk result (λ found. IfSome found (λ s. s ≡ tokens_say limits (tokens line.now))) }
-    ensures fine { IfOk result (λ found. IfSome found (λ s. IsFine limits s)) }
+pub fn quick_store(alloc: Global, limits: Limits, line: &[u8]) -> Result<Option<Start>, NoMemory>
+    ensures value { IfOk result (λ found. IfSome found (λ start. table.says limits line.now ≡ said.Block start)) }
+    ensures fine { IfOk result (λ found. IfSome found (λ start. IsFine limits (said.Block start))) }
 {
-    let Some((verb, rest)) = after_store(line) else {
+    let Some((verb, rest)) = after_store(without_cr(line)) else {
         return Ok(None);
     };
     let Some((token, rest)) = next_token(rest) else {
@@ -119,5 +119,9 @@ pub fn quick_store(alloc: Global, limits: Limits, line: &[u8]) -> Result<Option<
         count,
         quiet,
     };
-    Ok(Some(begun(limits, start)))
+    match begun(limits, start) {
+        Said::Block(start) => Ok(Some(start)),
+        Said::Skip(_) => Ok(None),
+        Said::Whole(_) => Ok(None),
+    }
 }

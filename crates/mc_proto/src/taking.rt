@@ -1,14 +1,16 @@
 //! Takes the bytes of a piece line by line and block by block, and updates the reader's state.
-ghost use Rattle.std.specs.Prelude.{◌≡◌, ◌++◌, [], ◌+◌, ◌-◌, ◌<◌, ◌≤◌, ◌∷◌, ℕ, List, IfOk, OnOk, All, length, take, drop, nat_eq};
+ghost use Rattle.std.specs.Prelude.{◌≡◌, ◌++◌, [], ◌+◌, ◌-◌, ◌<◌, ◌≤◌, ◌∷◌, ℕ, List, IfOk, OnOk, All, length, take, drop, nat_eq, false};
 ghost use Rattle.std.specs.Cmp.Lexicographic.{pointwise};
 ghost use Rattle.mc_item.specs.declared.command.Command.TheVariants as commands;
 ghost use Rattle.mc_proto.specs.{Grammar.stored, Grammar.skipped, Grammar.IsFine, Grammar.IsModerate, Table.says, Reader.After, Reader.IsSoundReader};
-ghost use Rattle.mc_proto.specs.declared.{request.Limits.Limits, request.LineFault.TheVariants.Chunk, request.Request.Request, request.Request.TheVariants.Bad};
-ghost use Rattle.mc_proto.specs.declared.{request.Request.TheVariants.One, state.State.State, state.State.TheVariants.Line};
+ghost use Rattle.mc_proto.specs.declared.request.LineFault.TheVariants.{Chunk, LineTooLong};
+ghost use Rattle.mc_proto.specs.declared.{request.Limits.Limits, request.Request.Request, request.Request.TheVariants.Bad, request.Request.TheVariants.One};
+ghost use Rattle.mc_proto.specs.declared.{state.State.State, state.State.TheVariants.Line, state.State.TheVariants.Closed};
 
+use crate::brief::read_brief;
 use crate::line::said_of;
 use crate::piece::Piece;
-use crate::quick::lone_get;
+use crate::quick::{lone_get, quick_store};
 use crate::request::{Keys, Limits, LineFault, Request};
 use crate::state::{PartialBlock, Said, Start, State};
 use crate::token::line_end;
@@ -163,6 +165,25 @@ fn take_begun<P: Piece>(
     Ok(begin + wanted)
 }
 
+// Closes the reader behind a line that is too long. Empties `line`.
+#[cold]
+#[inline(never)]
+fn close(
+    state: &mut State,
+    line: &mut BytesMut,
+    requests: &mut Vec<Request>,
+) -> Result<(), NoMemory>
+    ensures { OnOk result ((state.new ≡ Closed) × (line.new.items ≡ []) × (requests.new.items ≡ requests.old.items ++ Bad LineTooLong false ∷ [])) }
+{
+    line.clear();
+    requests.push(Request::Bad {
+        why: LineFault::LineTooLong,
+        quiet: false,
+    })?;
+    *state = State::Closed;
+    Ok(())
+}
+
 // Takes bytes of a line up to its LF, and those of a kept block after it. Returns how many bytes that were. If the line is too
 // long, the rest of the piece is taken.
 fn take_line<P: Piece>(
@@ -185,12 +206,7 @@ fn take_line<P: Piece>(
     let bytes = piece.bytes();
     let end = line_end(bytes);
     if line.len() + end > MAX_LINE {
-        line.clear();
-        requests.push(Request::Bad {
-            why: LineFault::LineTooLong,
-            quiet: false,
-        })?;
-        *state = State::Closed;
+        close(state, line, requests)?;
         return Ok(bytes.len());
     }
     if end == bytes.len() {
@@ -205,6 +221,12 @@ fn take_line<P: Piece>(
                 with_cas: false,
             })?;
             return Ok(end + 1);
+        }
+        if read_brief(alloc, front, requests)? {
+            return Ok(end + 1);
+        }
+        if let Some(start) = quick_store(alloc, limits, front)? {
+            return take_begun(alloc, state, requests, start, piece, end + 1);
         }
     }
     match said_at(alloc, limits, line, front)? {

@@ -1,5 +1,5 @@
 //! Finds the tokens of a line, and reads keys and numbers.
-ghost use Rattle.std.specs.Prelude.{◌≡◌, ◌+◌, ◌-◌, ◌<◌, ◌≤◌, ◌^◌, ◌++◌, ℕ, IfOk, IfSome, All, MatchOption, length, take, drop, get_or, map, ◌∷◌, []};
+ghost use Rattle.std.specs.Prelude.{◌≡◌, ◌+◌, ◌-◌, ◌<◌, ◌≤◌, ◌^◌, ◌++◌, ℕ, IfOk, IfSome, MatchOption, length, take, drop, get_or, map, ◌∷◌, []};
 ghost use Rattle.std.specs.Prelude.{List, Some, true, pos};
 ghost use Rattle.std.specs.List.{list_all};
 ghost use Rattle.mc_item.specs.Measure.{is_digit};

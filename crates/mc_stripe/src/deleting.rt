@@ -1,5 +1,5 @@
 //! The `delete` command.
-ghost use Rattle.std.specs.Prelude.{◌≡◌, ◌≤◌, IfOk, IfErr, nat_eq, true};
+ghost use Rattle.std.specs.Prelude.{◌≤◌, IfOk, IfErr, nat_eq, true};
 ghost use Rattle.std.specs.{Cmp.Lexicographic.pointwise, HashMap.get, HashMap.spare};
 ghost use Rattle.mc_item.specs.Answer.{delete_row};
 ghost use Rattle.mc_stripe.specs.Trying.{IsLeft, MakesRow};

@@ -1,5 +1,5 @@
 //! The `append` and `prepend` commands.
-ghost use Rattle.std.specs.Prelude.{◌≡◌, ◌≤◌, ◌<◌, ◌+◌, ◌^◌, ◌++◌, IfOk, IfErr, IfSome, IfNone, OnErr, None, Some, nat_eq, true};
+ghost use Rattle.std.specs.Prelude.{◌≡◌, ◌<◌, ◌+◌, ◌^◌, ◌++◌, IfOk, IfErr, IfSome, IfNone, OnErr, None, Some, nat_eq, true};
 ghost use Rattle.std.specs.{Cmp.Lexicographic.pointwise, HashMap.get, HashMap.spare};
 ghost use Rattle.mc_item.specs.{Answer.cas_of, Measure.cost_of};
 ghost use Rattle.mc_item.specs.Measure as measure;

@@ -119,17 +119,6 @@ fn changes_at(class: ClassNo, room: Room, fate: Fate) -> u64
 }
 
 impl Given {
-    // The class of the new version, if it is held.
-    #[inline(always)]
-    fn home_class(&self) -> Option<ClassNo>
-        ensures { result ≡ wanted.home_class self.now }
-    {
-        match self.home {
-            None => None,
-            Some(home) => Some(home.class),
-        }
-    }
-
     // The class of the key's old item, if it is held.
     #[inline(always)]
     fn other_class(&self) -> Option<ClassNo>

@@ -53,7 +53,7 @@ fn lines_and_gets(rt: HostRuntime) {
     compare(&rt, rt.alloc(), LINES_AND_GETS.as_slice());
 }
 
-static GATS: [Case; 20] = [
+static GATS: [Case; 21] = [
     (b"gat 0 a\r\n", b"gat 0 a;"),
     (b"gats 0 a\n", b"gats 0 a;"),
     (b"  gat   0   a  \r\n", b"gat 0 a;"),
@@ -61,6 +61,10 @@ static GATS: [Case; 20] = [
     (b"gat -1 a\r\n", b"gat -1 a;"),
     (b"gat 0 a noreply\r\n", b"gat 0 a noreply;"),
     (b"gat 0 noreply\r\n", b"gat 0 noreply;"),
+    (
+        b"gat 5  a\r\ngat 5 a \r\ngats  5 a\r\n",
+        b"gat 5 a;gat 5 a;gats 5 a;",
+    ),
     (
         b"gat 5 a b c d e f\r\ngats -5 a b c d e f g h i j\r\n",
         b"gat 5 a b c d e f;gats -5 a b c d e f g h i j;",
