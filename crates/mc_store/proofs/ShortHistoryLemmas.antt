@@ -49,6 +49,11 @@ pub match_fault : {T : Type 0} (r : Result T Fault) (P : T → Type 0) (F : Faul
 match_fault (Ok x) P F it = tt
 match_fault (Err f) P F it = it
 
+-- what holds of each error
+pub if_err_any : {T : Type 0} (r : Result T Fault) (F : Fault → Type 0) → ((e : Fault) → F e) → IfErr r F
+if_err_any (Ok x) F it = tt
+if_err_any (Err f) F it = it f
+
 -- what is told of an answer in two clauses
 pub if_ok_both : {T : Type 0} (r : Result T Fault) (P Q : T → Type 0) → IfOk r P → IfOk r Q → IfOk r (λ x. P x × Q x)
 if_ok_both (Ok x) P Q p q = (p, q)

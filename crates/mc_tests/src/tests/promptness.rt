@@ -27,10 +27,11 @@ static PIECES: [(&[u8], &[u8]); 6] = [
     ),
 ];
 
-// A reader that gives one piece a read. It fails if what was written isn't just what is owed.
+// A reader that gives one piece a read. It fails, and notes that the read was early, if what was written isn't just what is owed.
 #[derive(Drop)]
 struct Asks<'a> {
     place: usize,
+    early: bool,
     written: &'a Mutex<Vec<u8>>,
 }
 
@@ -43,6 +44,7 @@ impl Read for Asks<'_> {
             return Err(io::Error::from(ErrorKind::Other));
         };
         if written.as_slice() != *owed {
+            self.early = true;
             return Err(io::Error::from(ErrorKind::Other));
         }
         self.place += 1;
@@ -73,19 +75,24 @@ impl Write for Says<'_> {
     }
 }
 
-fn status_of<R: Abort + RandomSource + Threads + Wait + Sync>(
+// The status of the conversation, and whether a read was early.
+fn held_with<R: Abort + RandomSource + Threads + Wait + Sync>(
     rt: &R,
     alloc: Global,
     written: &Mutex<Vec<u8>>,
-) -> u8 {
-    let mut reader = Asks { place: 0, written };
+) -> (u8, bool) {
+    let mut reader = Asks {
+        place: 0,
+        early: false,
+        written,
+    };
     let mut output = Says {
         held: Vec::new(alloc),
         written,
     };
     let mut errors = Vec::new(alloc);
     let seed = seed_of(rt);
-    run_words(
+    let status = run_words(
         rt,
         alloc,
         seed,
@@ -93,14 +100,16 @@ fn status_of<R: Abort + RandomSource + Threads + Wait + Sync>(
         &mut reader,
         &mut output,
         &mut errors,
-    )
+    );
+    (status, reader.early)
 }
 
 #[test]
 fn each_reply_is_written_before_the_next_read(rt: HostRuntime) {
     let written = Mutex::new(Vec::new(rt.alloc()));
-    let status = status_of(&rt, rt.alloc(), &written);
+    let (status, early) = held_with(&rt, rt.alloc(), &written);
     same_status(&rt, status, 0, "a prompt conversation", 0);
+    assert!(rt; !early, "a read came before all replies were out");
     let all = written.into_inner();
     same_bytes(&rt, all.as_slice(), PIECES[5].1, "a prompt conversation", 0);
 }
