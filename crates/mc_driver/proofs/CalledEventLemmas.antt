@@ -1,12 +1,12 @@
 -- The turns of a caller's history, and the calls that they are for.
-use Rattle.std.proofs.Common.{◌≡◌, ◌⊎◌, ◌<◌, ◌≤◌, ℕ, zero, suc, List, [], ◌∷◌, ◌++◌, Some, Result, Ok, Err, refl, sym, ap, ◌∙◌, subst, inl, inr, ⊎_elim, arith, length, length-append, append-nil, None, map}
+use Rattle.std.proofs.Common.{◌≡◌, ◌⊎◌, ◌≤◌, ℕ, zero, suc, List, [], ◌∷◌, ◌++◌, Some, Result, Ok, Err, refl, sym, ap, ◌∙◌, subst, inl, inr, ⊎_elim, arith, length, append-nil, None, map}
 use Rattle.std.specs.Prelude.{IfErr, IsErrOf, OnOk, slice_get}
 use Rattle.std.proofs.lemmas.List.{length-map}
-use Rattle.mc_item.specs.declared.{call_event.CallEvent.CallEvent, command.Command.Command, config.Config.Config, fault.Fault.Fault, fault.Fault.TheVariants.HistoryFull, fault.Fault.TheVariants.NoMemory}
+use Rattle.mc_item.specs.declared.{call_event.CallEvent.CallEvent, config.Config.Config, fault.Fault.Fault, fault.Fault.TheVariants.HistoryFull, fault.Fault.TheVariants.NoMemory}
 use Rattle.mc_item.specs.declared.item.ClassNo.{ClassNo}
 use Rattle.mc_item.specs.declared.call_event.CallEvent.TheVariants as calls
 use Rattle.mc_script.specs.Exchanges.{Asks, Begun, Crawls, Exchange, Juggles, Limits, ScriptCall}
-use Rattle.mc_store.specs.Callers.{answered_at, asked_for, moment_of, turns_of}
+use Rattle.mc_store.specs.Callers.{answered_at, moment_of, turns_of}
 use Rattle.mc_store.specs.Calls.{IsUnbegun}
 use Rattle.mc_board.specs.declared.rule.Sight.{Sight}
 use Rattle.mc_store.specs.{Passes.PassView, Passes.next_who, Full.LacksPlaces, Serving.HasSeenShort}
@@ -135,10 +135,7 @@ may_again config old new (Err fault) may turn = tt
 
 -- a class's history with no place left is short
 pub lacks_short : (config : Config) (sight : Sight) (class : ClassNo) → LacksPlaces config sight class 1 → HasSeenShort config sight
-lacks_short config sight class lacks =
-    let short = lacks.short in
-    let two : LacksPlaces config sight class 2 = record { is = lacks.is; short = omega (arith, short) } in
-    short_lock config sight (any_short config sight two)
+lacks_short config sight class lacks = short_lock config sight (any_short config sight lacks)
 
 -- a call that failed for a full history has seen a short one, or its caller has had all its turns
 pub full_calls : {T : Type 0} (config : Config) (old new : PassView) (r : Result T Fault) (Till : Fault → Type 0) → MayCall config old

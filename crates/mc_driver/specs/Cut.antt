@@ -11,8 +11,8 @@ use Rattle.mc_segment.specs.ClassState.{opened}
 use Rattle.mc_stripe.specs.Plan.{visible_row}
 use Rattle.mc_pull.specs.Rounds.{rounds}
 use Rattle.mc_crawl.specs.Snapshot.{links_of}
-use Rattle.mc_store.specs.{Accounts.Stretch, Callers.HasNoneOf, Calls.IsJuggleCut, Commands.LeadsUp, Crawls.AreLinksCounted, Hits.AreAdvanced}
-use Rattle.mc_store.specs.{Locked.setting_of, Made.HasNoneMadeBy, Searches.IsSearchBroken, Sides.class_told}
+use Rattle.mc_store.specs.{Accounts.Stretch, Callers.HasNoneOf, Calls.IsJuggleCut, Commands.LeadsUp, Crawls.AreCountedFirst, Crawls.AreLinksCounted}
+use Rattle.mc_store.specs.{Hits.AreAdvanced, Locked.setting_of, Made.HasNoneMadeBy, Searches.IsSearchBroken, Sides.class_told}
 use Rattle.mc_driver.specs.{Noted.stripe_with, Searched.NotesSearchFor}
 
 -- a class's history has, in this stretch, a search for a chunk by this call that a fault broke off
@@ -58,14 +58,14 @@ pub record NotesJugglingCut (config : Config) (seen history : List ClassEvent) (
   pub cut : (after ≡ advanced) ⊎ ((fault : Fault) × IsJuggleCut (rounds (opened config class) who moment config) fault advanced after)
   pub begins : IsPrefix after history
 
--- a class's history has the beginning of a call's crawl: the first of the entries at one point after what was seen, counted one by
--- one, each in its stretch of the history, and by the item that its stripe had after `older`, which was seen of it, and by `newer`
+-- a class's history has the beginning of a call's crawl: none or not all of the entries at one point after what was seen, counted one
+-- by one, each in its stretch of the history, and by the item that its stripe had after `older`, which was seen of it, and by `newer`
 pub record NotesCrawlingCut (config : Config) (older newer : ℕ → List StripeEvent) (seen history : List ClassEvent) (who : Who) (class : ClassNo) (moment : ℕ)
     : Type 0 where
   pub at : List ClassEvent
   pub past : IsPrefix seen at
   pub links : List Link
-  pub some : IsPrefix links (links_of (record (opened config class) { history = at }))
+  pub some : AreCountedFirst links (links_of (record (opened config class) { history = at }))
   pub stretches : List Stretch
   pub histogram : Histogram
   pub end : List ClassEvent

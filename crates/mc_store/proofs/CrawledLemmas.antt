@@ -17,7 +17,7 @@ use Rattle.mc_crawl.specs.{Crawl.AreReclaims, Crawl.HasCounted, Crawl.Reclaims, 
 use Rattle.mc_stripe.specs.declared.trying.Turn.{Turn}
 use Rattle.mc_store.specs.{Accounts.Enters, Accounts.IsOfStretch, Accounts.IsOfStretches, Accounts.IsWithin, Accounts.Stretch, Accounts.stretch_of, Calls.IsSeenGrowOf, Locked.class_lock}
 use Rattle.mc_store.specs.{Callers.crawling_of, Passes.PassView, Passes.next_who, Sides.class_told}
-use Rattle.mc_store.specs.Crawls.{AreLinksCounted, CountsLink, CountsOne, HasCountedLink, HasReclaims, IsCrawledBy, IsCrawledTill, IsLinkCounted, IsSeenSound, IsSnapshot, ShowsReclaims}
+use Rattle.mc_store.specs.Crawls.{AreCountedFirst, AreLinksCounted, CountsLink, CountsOne, HasCountedLink, HasReclaims, IsCrawledBy, IsCrawledTill, IsLinkCounted, IsSeenSound, IsSnapshot, ShowsReclaims}
 use Rattle.mc_store.proofs.AccountLemmas.{enters_both, enters_later, enters_more, enters_same}
 use Rattle.mc_crawl.proofs.CrawlLemmas.{crawled_more}
 use Rattle.mc_store.specs.Reached.{IsStateBetween, seen_stripes}
@@ -359,7 +359,7 @@ so_far_all config class before after moment links done h all is count balanced r
 
 -- or a fault ended it behind some of them
 pub so_far_till : (config : Config) (class : ClassNo) (a b c : PassView) (who : Who) (moment : ℕ) (links done : List Link) (h : Histogram) → CountsSoFar config class a b who moment links done h
-    → who ≡ next_who a → IsPrefix done links → Grows b.sight c.sight → Enters (IsOfStretches config class []) who.turn c.sight b.made c.made → c.calls ≡ a.calls ++ crawling_of class moment ∷ []
+    → who ≡ next_who a → AreCountedFirst done links → Grows b.sight c.sight → Enters (IsOfStretches config class []) who.turn c.sight b.made c.made → c.calls ≡ a.calls ++ crawling_of class moment ∷ []
     → (fault : Fault) → (fault ≡ HistoryFull → IsShortFor config class c.sight) → IsCrawledTill config class a c moment fault
 so_far_till config class a b c who moment links done h some is begins grows last noted fault full =
     let lock = class_lock config class in
@@ -368,7 +368,7 @@ so_far_till config class a b c who moment links done h some is begins grows last
       history = some.snapshot.history;
       begins = some.snapshot.begins;
       links = done;
-      some = subst (IsPrefix done) (sym some.links_are ∙ some.snapshot.links_are) begins;
+      some = subst (AreCountedFirst done) (sym some.links_are ∙ some.snapshot.links_are) begins;
       stretches = some.stretches;
       until = list_at b.sight.seen lock;
       now = grows.at lock;
@@ -395,7 +395,7 @@ till_none config class before after moment sound grows made noted fault full =
       history = whole;
       begins = subst (IsPrefix (list_at before.sight.seen lock)) sound.now (grows.at lock);
       links = [];
-      some = (links_of (record (opened config class) { history = whole }), refl);
+      some = ((links_of (record (opened config class) { history = whole }), refl), inl refl);
       stretches = [];
       until = class_told whole;
       now = subst (IsPrefix (class_told whole)) (sym sound.now) (prefix_self (class_told whole));

@@ -1,5 +1,5 @@
 -- A command that ends with `HistoryFull`: what it lacks as more is seen, on a stripe that stands for another, and in other words.
-use Rattle.std.proofs.Common.{◌≡◌, ◌<◌, ◌+◌, ◌++◌, ◌⊎◌, ℕ, List, inl, inr, length, ap, ◌∙◌, refl, subst, sym, arith, ⊎_elim}
+use Rattle.std.proofs.Common.{◌≡◌, ◌<◌, ◌≤◌, ◌++◌, ◌⊎◌, ℕ, List, inl, inr, length, ap, ◌∙◌, refl, subst, sym, arith, ⊎_elim}
 use Rattle.std.specs.Prelude.{Option, Some, None}
 use mathlib.Core.List.{IsPrefix}
 use Rattle.atomic_table.specs.Seated.{TableId}
@@ -20,7 +20,7 @@ use Rattle.mc_store.specs.Searches.{HasSeenOf}
 use Rattle.mc_store.specs.Full.{HasSeenFull, IsFullFor, IsRoomOf, LacksEntries, LacksPlaces}
 use Rattle.mc_store.specs.{Commands.burial, Locked.IsHeldClass, Locked.class_lock, Serving.HasSeenShort, Serving.IsShortFor, Sides.ClassSide, Sides.class_told, Sides.stripe_told}
 use Rattle.mc_store.proofs.CommandLemmas.{buried_alive, buried_row, buried_visible, changes_two, dead_same, fresh_visible, not_dead, row_same, visible_same}
-use Rattle.mc_store.proofs.{ShortHistoryLemmas.short_grows, ShortHistoryLemmas.short_lock, SyncedStepLemmas.any_short, SyncedStepLemmas.class_told_more, SyncedStepLemmas.map_length}
+use Rattle.mc_store.proofs.{ShortHistoryLemmas.short_grows, ShortHistoryLemmas.short_lock, ShortHistoryLemmas.two_short, SyncedStepLemmas.any_short, SyncedStepLemmas.class_told_more, SyncedStepLemmas.map_length}
 
 -- ---- as more is seen
 
@@ -143,8 +143,7 @@ entries_short config s sight command moment entries =
     let few = changes_two entries.class entries.room fate in
     let lacks = entries.lacks in
     let short = lacks.short in
-    let two : LacksPlaces config sight entries.class 2 = record { is = lacks.is; short = omega (arith, few, short) } in
-    short_lock config sight (any_short config sight two)
+    two_short config sight entries.class (record { is = lacks.is; short = omega (arith, few, short) })
 
 -- and so it was wherever a command ended with `HistoryFull`
 pub full_short : (config : Config) (number : ℕ) (s s_new : Stripe) (sight : Sight) (command : Command) (moment : ℕ) → number < config.stripes → s_new.limit ≡ config.max_events
@@ -154,11 +153,11 @@ full_short config number s s_new sight command moment of limit told = by
     long : length (list_at sight.seen number) ≡ length s_new.history
     long = ap (λ (l : List Event). length l) told ∙ map_length events.Stripe s_new.history
 
-    own : s_new.limit < length s_new.history + 2 → HasSeenShort config sight
-    own short = record { lock = number; of = omega (arith, of); short = omega (arith, long, limit, short) }
+    own : s_new.limit ≤ length s_new.history → HasSeenShort config sight
+    own full = record { lock = number; of = omega (arith, of); short = omega (arith, long, limit, full) }
 
     by : IsFullFor config s s_new sight command moment → HasSeenShort config sight
-    by (inl full) = own (omega (arith, full))
+    by (inl full) = own full
     by (inr (inl burial)) = ⊎_elim own (λ class. short_lock config sight (any_short config sight class)) burial.lacks
     by (inr (inr (inl entries))) = entries_short config s sight command moment entries
     by (inr (inr (inr search))) =

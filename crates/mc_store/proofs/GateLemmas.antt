@@ -1,5 +1,5 @@
 -- What a gate under locks serves, it serves after a survey too; and what its stripes gain adds up.
-use Rattle.std.proofs.Common.{◌≡◌, ◌<◌, ◌+◌, ℕ, List, [], ◌∷◌, ◌++◌, refl, sym, ap, ◌∙◌, subst, inl, inr, ⊎_elim, arith, length, drop, append_assoc, Option, None, Result, Ok, Err}
+use Rattle.std.proofs.Common.{◌≡◌, ◌<◌, ℕ, List, [], ◌∷◌, ◌++◌, refl, sym, ap, ◌∙◌, subst, inl, inr, ⊎_elim, arith, length, drop, append_assoc, Option, None, Result, Ok, Err}
 use Rattle.std.specs.Prelude.{◌≤◌, IfErr, IfOk}
 use Rattle.std.proofs.lemmas.List.{append-nil}
 use mathlib.Core.List.{IsPrefix}
@@ -254,7 +254,7 @@ room_full table config who owner seen c served sight lock at list more r may is 
     by : MayFailSeen config seen.sight c HistoryFull → IsShortFor config c.number sight
     by (inl lack) =
         any_short config sight (short_of config sight lock c.number c.history (at ∙ served.kept.lock_is) served.kept.is list
-        (subst (λ (n : ℕ). n < length c.history + 2) served.kept.made_with.max_events lack))
+        (subst (λ (n : ℕ). n ≤ length c.history) served.kept.made_with.max_events lack))
     by (inr short) = short_grows config seen.sight sight more short
 
 -- ---- looks

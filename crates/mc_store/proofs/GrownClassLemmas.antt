@@ -1,5 +1,5 @@
 -- A class whose history grew under its lock, as the pass sees it that made the call.
-use Rattle.std.proofs.Common.{◌≡◌, ◌≤◌, ◌<◌, ◌+◌, ◌++◌, ◌∷◌, [], ◌⊎◌, ℕ, List, Result, Ok, Err, sym, ap, ◌∙◌, subst, inl, inr, arith, length}
+use Rattle.std.proofs.Common.{◌≡◌, ◌≤◌, ◌++◌, ◌∷◌, [], ◌⊎◌, ℕ, List, Result, Ok, Err, sym, ap, ◌∙◌, subst, inl, inr, arith, length}
 use Rattle.std.specs.Prelude.{IfErr, IfOk}
 use mathlib.Core.List.{IsPrefix}
 use Rattle.atomic_table.specs.Seated.{TableId}
@@ -63,7 +63,7 @@ module _ (table : TableId) (config : Config) (class : ClassNo) (before after : S
   full_seen (inl lack) =
       subst (λ (n : ClassNo). IsShortFor config n after) new_number
       (any_short config after (short_of config after new.lock new.class.number new.class.history new_kept.lock_is new_kept.is told
-      (subst (λ (n : ℕ). n < length new.class.history + 2) new_kept.made_with.max_events lack)))
+      (subst (λ (n : ℕ). n ≤ length new.class.history) new_kept.made_with.max_events lack)))
   full_seen (inr short) = subst (λ (n : ClassNo). IsShortFor config n after) new_number (short_grows config new.sight after all short)
 
   -- the fault of a call

@@ -184,7 +184,7 @@ keeps_full config sight was v v_new refused who (Some h) offers readied stay see
       number_is = ap (λ (x : ClassView). x.number) stay ∙ ap (λ (x : ClassView). x.number) readied;
       seen = subst (λ (x : ClassView). HasSeenFull config sight x.number) (sym stay) (seen full);
       short = λ few. subst (λ (x : ClassView). IsShortFor config x.number sight) (sym stay)
-          (any_short config sight (short 2 (subst (λ (x : ClassView). x.max_events < length x.history + 2) stay few)));
+          (any_short config sight (short 1 (let few_was = subst (λ (x : ClassView). x.max_events ≤ length x.history) stay few in omega (arith, few_was))));
     }
 
 -- where the classes that are held suffice no burial is wanted
@@ -400,7 +400,7 @@ module _ (table : TableId) (config : Config) (was side : ClassSide) (sight : Sig
 -- ---- what is left to do
 
 -- a class that is full and has no place for its refusal is short, as the stripe has seen
-pub refuse_short : (config : Config) (sight : Sight) (v v_new : ClassView) → (v.max_events < length v.history + 2 → IsShortFor config v.number sight)
+pub refuse_short : (config : Config) (sight : Sight) (v v_new : ClassView) → (v.max_events ≤ length v.history → IsShortFor config v.number sight)
     → v_new ≡ with_room v v_new.room → v_new.max_events ≤ length v_new.history → IsShortFor config v.number sight
 refuse_short config sight v v_new short same full =
     let limit : v_new.max_events ≡ v.max_events = ap (λ (x : ClassView). x.max_events) same in

@@ -150,10 +150,6 @@ pub on_err_both : {X : Type 0} (r : Result X Fault) (P Q : Type 0) → OnErr r P
 on_err_both (Ok x) P Q p q = tt
 on_err_both (Err fault) P Q p q = (p, q)
 
-pub on_err_of : {X : Type 0} (r : Result X Fault) (F : Fault → Type 0) (E : Type 0) → ((f : Fault) → F f → E) → IfErr r F → OnErr r E
-on_err_of (Ok x) F E more it = tt
-on_err_of (Err f) F E more it = more f it
-
 pub if_err_more : {X : Type 0} (r : Result X Fault) (P Q : Fault → Type 0) → ((f : Fault) → P f → Q f) → IfErr r P → IfErr r Q
 if_err_more (Ok x) P Q more p = tt
 if_err_more (Err f) P Q more p = more f p

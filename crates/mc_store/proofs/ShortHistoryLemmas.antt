@@ -49,11 +49,6 @@ pub match_fault : {T : Type 0} (r : Result T Fault) (P : T → Type 0) (F : Faul
 match_fault (Ok x) P F it = tt
 match_fault (Err f) P F it = it
 
--- what holds of each error
-pub if_err_any : {T : Type 0} (r : Result T Fault) (F : Fault → Type 0) → ((e : Fault) → F e) → IfErr r F
-if_err_any (Ok x) F it = tt
-if_err_any (Err f) F it = it f
-
 -- what is told of an answer in two clauses
 pub if_ok_both : {T : Type 0} (r : Result T Fault) (P Q : T → Type 0) → IfOk r P → IfOk r Q → IfOk r (λ x. P x × Q x)
 if_ok_both (Ok x) P Q p q = (p, q)
@@ -107,15 +102,16 @@ short_grows config a b grows seen = record {
   is = seen.is;
   lock = seen.lock;
   of = seen.of;
-  short =
+  full =
       let longer = prefix_length (list_at a.seen seen.lock) (list_at b.seen seen.lock) (grows.at seen.lock) in
-      let was = seen.short in
+      let was = seen.full in
       omega (arith, longer, was);
 }
 
 -- what is short for a class is one of the store's
 pub short_lock : (config : Config) (sight : Sight) {class : ClassNo} → IsShortFor config class sight → HasSeenShort config sight
-short_lock config sight {class = class} seen = record { lock = seen.lock; of = below seen.of; short = seen.short }
+short_lock config sight {class = class} seen =
+    record { lock = seen.lock; of = below seen.of; short = let full = seen.full in omega (arith, full) }
   where
     below : (seen.lock ≡ class_lock config class) ⊎ (seen.lock < config.stripes) → seen.lock < locks_for config
     below (inl same) =
@@ -123,3 +119,10 @@ short_lock config sight {class = class} seen = record { lock = seen.lock; of = b
         let last = seen.is.1 in
         omega (arith, first, last, same)
     below (inr stripe) = omega (arith, stripe)
+
+-- and so is a class that lacks two places
+pub two_short : (config : Config) (sight : Sight) (class : ClassNo) → LacksPlaces config sight class 2 → HasSeenShort config sight
+two_short config sight class lacks =
+    let first = lacks.is.0 in
+    let last = lacks.is.1 in
+    record { lock = class_lock config class; of = omega (arith, first, last); short = lacks.short }

@@ -1,5 +1,5 @@
 -- Steps on a class and a stripe that are told of each other before and behind them keep what both locks keep.
-use Rattle.std.proofs.Common.{◌≡◌, ◌<◌, ◌+◌, ◌⊎◌, ℕ, suc, List, [], ◌∷◌, ◌++◌, Result, Ok, Err, refl, sym, ap, ◌∙◌, subst, inl, inr, arith, length, map}
+use Rattle.std.proofs.Common.{◌≡◌, ◌≤◌, ◌⊎◌, ℕ, suc, List, [], ◌∷◌, ◌++◌, Result, Ok, Err, refl, sym, ap, ◌∙◌, subst, inl, inr, arith, length, map}
 use Rattle.std.specs.Prelude.{IfOk, IfErr, IsErrAnd, OnErr}
 use Rattle.std.proofs.lemmas.List.{append-nil}
 use mathlib.Core.List.{IsPrefix}
@@ -84,17 +84,18 @@ stripe_at own s sight = record { board = own.board; lock = own.lock; stripe = s;
 abbrev pub class_at : ClassSide → ClassView → Sight → ClassSide
 class_at lent c sight = record { board = lent.board; lock = lent.lock; class = c; sight = sight }
 
--- a class's history that was told whole, and is short
+-- a class's history that was told whole, and has no place left
 pub short_of : (config : Config) (sight : Sight) (lock : ℕ) (class : ClassNo) (history : List ClassEvent) → lock ≡ class_lock config class → IsClass (setting_of config) class
-    → list_at sight.seen lock ≡ class_told history → config.max_events < length history + 2 → LacksPlaces config sight class 2
+    → list_at sight.seen lock ≡ class_told history → config.max_events ≤ length history → LacksPlaces config sight class 1
 short_of config sight lock class history at is list lack =
     let long : length (list_at sight.seen (class_lock config class)) ≡ length history =
     ap (λ (n : ℕ). length (list_at sight.seen n)) (sym at) ∙ (ap (λ (t : List Event). length t) list ∙ map_length events.Class history) in
     record { is = is; short = omega (arith, long, lack) }
 
--- a class's short history is short for it
-pub any_short : (config : Config) (sight : Sight) {class : ClassNo} → LacksPlaces config sight class 2 → IsShortFor config class sight
-any_short config sight {class = class} lacks = record { is = lacks.is; lock = class_lock config class; of = inl refl; short = lacks.short }
+-- a class's full history is short for it
+pub any_short : (config : Config) (sight : Sight) {class : ClassNo} → LacksPlaces config sight class 1 → IsShortFor config class sight
+any_short config sight {class = class} lacks =
+    record { is = lacks.is; lock = class_lock config class; of = inl refl; full = let short = lacks.short in omega (arith, short) }
 
 -- a stripe and a class that agreed stepped together, and were told of each other
 module _ (table : TableId) (config : Config) (own : StripeSide) (lent : ClassSide) (own_kept : IsLockedStripe table config own) (lent_kept : IsHeldClass table config lent) (agree : AgreeNow lent.class own.stripe)
@@ -137,7 +138,7 @@ module _ (table : TableId) (config : Config) (own : StripeSide) (lent : ClassSid
 
   -- and where the step failed, the class has seen why
   pub fails_seen : (fault : Fault) → MayFail c s fault → MayFailSeen config seen c fault
-  fails_seen HistoryFull (inl full) = inl (omega (arith, full))
+  fails_seen HistoryFull (inl full) = inl full
   fails_seen HistoryFull (inr full) =
       let limit : s.limit ≡ config.max_events = site.limit ∙ own_kept.made_with.limit in
       let list : list_at seen.seen own.lock ≡ stripe_told s.history = ap (λ (t : Sight). list_at t.seen own.lock) told_of ∙ list_at_same lent.sight.seen own.lock (stripe_told s.history) in
@@ -145,16 +146,16 @@ module _ (table : TableId) (config : Config) (own : StripeSide) (lent : ClassSid
       let lock = own_kept.lock_is in
       let of = own_kept.of in
       let is : IsClass (setting_of config) c.number = subst (λ (n : ClassNo). IsClass (setting_of config) n) (sym number_is) lent_kept.is in
-      inr (record { is = is; lock = own.lock; of = inr (omega (arith, lock, of)); short = omega (arith, long, limit, full) })
+      inr (record { is = is; lock = own.lock; of = inr (omega (arith, lock, of)); full = omega (arith, long, limit, full) })
   fails_seen NoMemory may = tt
 
   -- and the stripe too
-  pub short_seen_of : MayFail c s HistoryFull → (s.limit < length s.history + 2) ⊎ LacksPlaces config sight lent.class.number 2
+  pub short_seen_of : MayFail c s HistoryFull → (s.limit ≤ length s.history) ⊎ LacksPlaces config sight lent.class.number 1
   short_seen_of (inl full) =
       let most : c.max_events ≡ config.max_events = ap (λ (v : ClassView). v.max_events) grows.same ∙ lent_kept.made_with.max_events in
       let list : list_at sight.seen lent.lock ≡ class_told c.history = ap (λ (t : Sight). list_at t.seen lent.lock) told ∙ list_at_same own.sight.seen lent.lock (class_told c.history) in
       inr (short_of config sight lent.lock lent.class.number c.history lent_kept.lock_is lent_kept.is list (omega (arith, most, full)))
-  short_seen_of (inr full) = inl (omega (arith, full))
+  short_seen_of (inr full) = inl full
 
 -- a stripe and a class were told of each other
 module _ (table : TableId) (config : Config) (own : StripeSide) (lent : ClassSide) (own_kept : IsLockedStripe table config own) (lent_kept : IsHeldClass table config lent) (sight seen : Sight)
@@ -231,9 +232,9 @@ module _ (table : TableId) (config : Config) (own : StripeSide) (lent : ClassSid
       pair_told_is pair_told_of_is more pair_more_of_is)
 
   -- where the step failed for a full history, the stripe has seen it
-  pub short_paired : MayFail c_new s_new HistoryFull → (own_last.stripe.limit < length own_last.stripe.history + 2) ⊎ LacksPlaces config own_last.sight c.number 2
+  pub short_paired : MayFail c_new s_new HistoryFull → (own_last.stripe.limit ≤ length own_last.stripe.history) ⊎ LacksPlaces config own_last.sight c.number 1
   short_paired may =
-      subst (λ (x : StripeSide). (x.stripe.limit < length x.stripe.history + 2) ⊎ LacksPlaces config x.sight c.number 2) (sym own_last_is)
+      subst (λ (x : StripeSide). (x.stripe.limit ≤ length x.stripe.history) ⊎ LacksPlaces config x.sight c.number 1) (sym own_last_is)
       (short_seen_of table config (stripe_side own_owner own_seen s) (class_side owner seen c) own_first lent_first agree s_new c_new site grows legal lawful agreement still own_new.sight lent_last.sight
       pair_told_is pair_told_of_is more pair_more_of_is may)
 

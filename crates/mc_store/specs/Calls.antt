@@ -143,7 +143,7 @@ pub record IsJuggledBy (config : Config) (class : ClassNo) (before after : PassV
   pub noted : after.calls ≡ before.calls ++ juggling_of class moment ∷ []
   pub account : Enters (IsOfWalk config class) before.turn after.sight before.made after.made
 
--- the same, but a fault ended it; `HistoryFull` means that the history of the class or of a stripe has fewer than two places left
+-- the same, but a fault ended it; `HistoryFull` means that the history of the class or of a stripe has no place left
 pub record IsJuggledTill (config : Config) (class : ClassNo) (before after : PassView) (moment : ℕ) (fault : Fault) : Type 0 where
   pub old : ClassView
   pub history_new : List ClassEvent

@@ -1,5 +1,5 @@
 -- What a crawl of a class leaves, by what its pass had seen before and has seen after (own).
-use Rattle.std.specs.Prelude.{◌≡◌, ◌+◌, ◌++◌, ◌⊎◌, ℕ, List, [], ◌∷◌}
+use Rattle.std.specs.Prelude.{◌≡◌, ◌<◌, ◌+◌, ◌++◌, ◌⊎◌, ℕ, List, [], ◌∷◌, length}
 use mathlib.Core.List.{IsPrefix}
 use Rattle.mc_item.specs.declared.{class_event.ClassEvent.ClassEvent, config.Config.Config, counts.Histogram.Histogram, event.Event.Event}
 use Rattle.mc_item.specs.declared.{fault.Fault.Fault, fault.Fault.TheVariants.HistoryFull}
@@ -120,13 +120,17 @@ pub record IsCrawledBy (config : Config) (class : ClassNo) (before after : PassV
   pub account : Enters (IsOfStretches config class stretches) before.turn after.sight before.made after.made
   pub noted : after.calls ≡ before.calls ++ crawling_of class moment ∷ []
 
--- the same, but a fault ended it when some of the links were counted; `HistoryFull` means that the history of the class or of a stripe
--- has fewer than two places left
+-- these are the first of all links, and either none of them or not all: what a crawl had counted when a fault ended it
+abbrev pub AreCountedFirst : (links all : List Link) → Type 0
+AreCountedFirst links all = IsPrefix links all × ((links ≡ []) ⊎ (length links < length all))
+
+-- the same, but a fault ended it before the last link was counted; `HistoryFull` means that the history of the class or of a stripe
+-- has no place left
 pub record IsCrawledTill (config : Config) (class : ClassNo) (before after : PassView) (moment : ℕ) (fault : Fault) : Type 0 where
   pub history : List ClassEvent
   pub begins : IsPrefix (list_at before.sight.seen (class_lock config class)) (class_told history)
   pub links : List Link
-  pub some : IsPrefix links (links_of (record (opened config class) { history = history }))
+  pub some : AreCountedFirst links (links_of (record (opened config class) { history = history }))
   pub stretches : List Stretch
   pub until : List Event
   pub now : IsPrefix until (list_at after.sight.seen (class_lock config class))

@@ -28,11 +28,11 @@ IsRoomOf needs.Nothing room = room ≡ rooms.Keep
 IsRoomOf needs.Same room = room ≡ rooms.Keep
 IsRoomOf needs.TooLarge room = room ≡ rooms.Keep
 
--- a command's item is dead; to remove it takes two places in the stripe's history and two in the item's class's, and one has fewer
+-- a command's item is dead; to remove it takes a place in its stripe's history and one in its class's, and one of the two is full
 pub record LacksBurial (config : Config) (s s_new : Stripe) (sight : Sight) (command : Command) (moment : ℕ) : Type 0 where
   pub link : Link
   pub dead : dead_link (item_of s command) moment ≡ Some link
-  pub lacks : (s_new.limit < length s_new.history + 2) ⊎ LacksPlaces config sight link.class 2
+  pub lacks : (s_new.limit ≤ length s_new.history) ⊎ LacksPlaces config sight link.class 1
 
 -- the history of a class lacks places for the entries that come and leave when the command is made in some room
 pub record LacksEntries (config : Config) (s : Stripe) (sight : Sight) (command : Command) (moment : ℕ) : Type 0 where
@@ -49,8 +49,8 @@ pub record HasSeenFull (config : Config) (sight : Sight) (class : ClassNo) : Typ
   pub seen : IsPrefix (class_told before) (list_at sight.seen (class_lock config class))
   pub full : IsFull (chunks_for config class) before
 
--- a command needs a chunk of a class that was full, and this class or a stripe has fewer than the two places that each step of a
--- search takes, or the history of a class lacks places for the entries that come and leave after it
+-- a command needs a chunk of a class that was full, and the history of this class or of a stripe has no place left for a step of a
+-- search, or the history of a class lacks places for the entries that come and leave after it
 pub record LacksSearch (config : Config) (s s_new : Stripe) (sight : Sight) (command : Command) (moment : ℕ) : Type 0 where
   pub class : ClassNo
   pub fresh : (visible_row s command moment).need ≡ needs.Fresh class

@@ -1,5 +1,5 @@
 -- The classes that a command has locked, and one try on them (own).
-use Rattle.std.specs.Prelude.{ℕ, ◌≡◌, ◌<◌, ◌≤◌, ◌+◌, ◌^◌, ◌++◌, List, Option, Some, None, IfSome, Result, IfOk, OnOk, OnErr, IsErrOf, length}
+use Rattle.std.specs.Prelude.{ℕ, ◌≡◌, ◌≤◌, ◌^◌, ◌++◌, List, Option, Some, None, IfSome, Result, IfOk, OnOk, OnErr, IsErrOf, length}
 use Rattle.std.specs.{Sync.Mutex.mutex_guard_value, declared.sync.MutexGuard.MutexGuard}
 use Rattle.mc_item.specs.{Command.key_of, Measure.stripe_of, Stripe.IsAlive}
 use Rattle.mc_item.specs.declared.answer.Need.TheVariants as needs
@@ -51,7 +51,7 @@ pub record Suffice (home other : Option ClassNo) (s : Stripe) (command : Command
   pub for_version : Holds home (classes_for (key_of command) (item_of s command) (row_at s command moment)).home
   pub for_item : Holds other (classes_for (key_of command) (item_of s command) (row_at s command moment)).other
 
--- a class is full with an unchanged history, as was seen, and no refusal is known; if that has fewer than two places left, this was seen
+-- a class is full with an unchanged history, as was seen, and no refusal is known; if that has no place left, this was seen
 pub record IsStillFull (config : Config) (sight : Sight) (refused : Option ℕ) (v v_new : ClassView) : Type 0 where
   pub none : refused ≡ None
   pub was_full : IsFull v.chunks v.history
@@ -59,7 +59,7 @@ pub record IsStillFull (config : Config) (sight : Sight) (refused : Option ℕ) 
   pub history_is : v_new.history ≡ v.history
   pub number_is : v_new.number ≡ v.number
   pub seen : HasSeenFull config sight v_new.number
-  pub short : v_new.max_events < length v_new.history + 2 → IsShortFor config v_new.number sight
+  pub short : v_new.max_events ≤ length v_new.history → IsShortFor config v_new.number sight
 
 -- a command needs a new chunk of this class, and needs no other class than this and the one for its key's item
 pub record WantsChunk (class : ClassNo) (other : Option ClassNo) (s : Stripe) (command : Command) (moment : ℕ) : Type 0 where

@@ -1,5 +1,5 @@
 -- A class whose tokens are lent apart from it, as on a walk, and histories that were seen to be nearly full (own).
-use Rattle.std.specs.Prelude.{◌≡◌, ◌≢◌, ◌<◌, ◌+◌, ◌⊎◌, ℕ, drop, length}
+use Rattle.std.specs.Prelude.{◌≡◌, ◌≢◌, ◌<◌, ◌≤◌, ◌+◌, ◌⊎◌, ℕ, drop, length}
 use mathlib.Core.List.{IsPrefix}
 use Rattle.atomic_table.specs.Seated.{TableId}
 use Rattle.mc_item.specs.declared.{config.Config.Config, fault.Fault.Fault, fault.Fault.TheVariants.HistoryFull, fault.Fault.TheVariants.NoMemory}
@@ -28,16 +28,16 @@ pub record HasSeenShort (config : Config) (sight : Sight) : Type 0 where
   pub of : lock < locks_for config
   pub short : config.max_events < length (list_at sight.seen lock) + 2
 
--- the store has this class, and by what was seen of it or of a stripe, its history has fewer than two places left
+-- the store has this class, and by what was seen of it or of a stripe, its history has no place left
 pub record IsShortFor (config : Config) (class : ClassNo) (sight : Sight) : Type 0 where
   pub is : IsClass (setting_of config) class
   pub lock : ℕ
   pub of : (lock ≡ class_lock config class) ⊎ (lock < config.stripes)
-  pub short : config.max_events < length (list_at sight.seen lock) + 2
+  pub full : config.max_events ≤ length (list_at sight.seen lock)
 
--- the faults that a walk may return: `HistoryFull` only if the class's history, or a stripe's that was seen, has under two places left
+-- the faults that a walk may return: `HistoryFull` only if the class's history, or a stripe's that was seen, has no place left
 abbrev pub MayFailSeen : Config → Sight → ClassView → Fault → Type 0
-MayFailSeen config sight c HistoryFull = (c.max_events < length c.history + 2) ⊎ IsShortFor config c.number sight
+MayFailSeen config sight c HistoryFull = (c.max_events ≤ length c.history) ⊎ IsShortFor config c.number sight
 MayFailSeen config sight c NoMemory = Unit {0}
 
 -- a token later: it has seen no less, and what it has noted stays

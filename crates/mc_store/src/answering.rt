@@ -1,5 +1,5 @@
 //! One command under the lock of its key's stripe. It is tried, gets what it turns out to want, and is tried again.
-ghost use Rattle.std.specs.Prelude.{◌≡◌, ◌<◌, ◌+◌, ◌++◌, ◌⊎◌, Some, IfSome, OnOk, OnErr, IsErrOf, length};
+ghost use Rattle.std.specs.Prelude.{◌≡◌, ◌≤◌, ◌++◌, ◌⊎◌, Some, IfSome, OnOk, OnErr, IsErrOf, length};
 ghost use Rattle.std.specs.Sync.Mutex.{mutex_guard_value};
 ghost use Rattle.mc_item.specs.Command.{key_of};
 ghost use Rattle.mc_item.specs.declared.fault.Fault.TheVariants.{HistoryFull};
@@ -105,7 +105,7 @@ fn bury<N: Named>(
     ensures err { OnErr result (own.new.stripe.history ≡ own.old.stripe.history) }
     ensures sees { Grows own.old.sight own.new.sight }
     ensures same { KeepsSite own.old.stripe own.new.stripe × StillBuries N.config link task.entry.turn own.old own.new caller.old caller.new }
-    ensures full { IsErrOf result HistoryFull → (own.new.stripe.limit < length own.new.stripe.history + 2) ⊎ LacksPlaces N.config own.new.sight link.class 2 }
+    ensures full { IsErrOf result HistoryFull → (own.new.stripe.limit ≤ length own.new.stripe.history) ⊎ LacksPlaces N.config own.new.sight link.class 1 }
 {
     let store = task.store;
     own.law();

@@ -20,8 +20,8 @@ impl<N: Named> Store<N> {
     /// First it takes up to 256 hits from the class's queue. It moves the entry of each from COLD to WARM, if the item is ACTIVE; the
     /// code also asks that the item is alive. These moves aren't counted. `moment` is the time in whole seconds. The events that the call makes are of
     /// this class and of stripes.
-    /// After a fault what happened so far stays. `HistoryFull` comes only if the history of this class or of a stripe has
-    /// fewer than two places left, or the pass has had `max_events` turns. `NoMemory` comes if an allocation fails.
+    /// After a fault what happened so far stays. `HistoryFull` comes only if the history of this class or of a stripe is full, or the
+    /// pass has had `max_events` turns. `NoMemory` comes if an allocation fails.
     pub fn juggle(
         &self,
         alloc: Global,

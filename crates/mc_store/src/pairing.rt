@@ -1,6 +1,6 @@
 //! Steps on a stripe and classes under their locks. Before each step the views of stripe and classes are synced. After it the
 //! board gets the new events, and the views are synced again.
-ghost use Rattle.std.specs.Prelude.{ℕ, ◌≡◌, ◌≤◌, ◌<◌, ◌∷◌, [], true, false, ◌++◌, IfOk, OnOk, OnErr, IsErrOf, length};
+ghost use Rattle.std.specs.Prelude.{ℕ, ◌≡◌, ◌≤◌, ◌<◌, ◌∷◌, [], true, false, ◌++◌, IfOk, OnErr, IsErrOf, length};
 ghost use Rattle.mc_item.specs.declared.fault.Fault.TheVariants.{HistoryFull};
 ghost use Rattle.mc_evidence.specs.Seen.{classes_seen};
 ghost use Rattle.mc_rule.specs.Lists.{IsFull};

@@ -1,5 +1,5 @@
 //! Walks under the locks of a store: making room in a class, juggling it, removing a dead item.
-ghost use Rattle.std.specs.Prelude.{◌≡◌, ◌≤◌, ◌<◌, ◌+◌, ◌++◌, ◌∷◌, ◌⊎◌, [], List, Some, IfOk, IfErr, OnOk, OnErr, IsErrOf, MatchResult, false, length};
+ghost use Rattle.std.specs.Prelude.{◌≡◌, ◌≤◌, ◌+◌, ◌++◌, ◌∷◌, ◌⊎◌, [], List, Some, IfOk, IfErr, OnOk, OnErr, IsErrOf, MatchResult, false, length};
 ghost use Rattle.mc_item.specs.Command.{key_of};
 ghost use Rattle.mc_item.specs.declared.{fault.Fault.TheVariants.HistoryFull, stripe_event.Cause.TheVariants.Expired};
 ghost use Rattle.mc_stripe.specs.{Plan.dead_link, StripeCalls.KeepsSite, StripeState.cache_now};
@@ -181,7 +181,7 @@ pub(crate) fn bury_under<N: Named>(
     ensures err { OnErr result (own.new.stripe.history ≡ own.old.stripe.history) }
     ensures sees { Grows own.old.sight own.new.sight }
     ensures same { KeepsSite own.old.stripe own.new.stripe × StillBuries N.config link task.entry.turn own.old own.new caller.old caller.new }
-    ensures full { IsErrOf result HistoryFull → (own.new.stripe.limit < length own.new.stripe.history + 2) ⊎ LacksPlaces N.config own.new.sight link.class 2 }
+    ensures full { IsErrOf result HistoryFull → (own.new.stripe.limit ≤ length own.new.stripe.history) ⊎ LacksPlaces N.config own.new.sight link.class 1 }
 {
     let store = task.store;
     let board = &store.board;

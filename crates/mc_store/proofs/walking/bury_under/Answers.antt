@@ -1,4 +1,4 @@
-use Rattle.std.proofs.Common.{◌≡◌, ◌<◌, ◌+◌, ◌⊎◌, length, ◌++◌, ◌∷◌, [], List, Some, ap, refl, sym, subst, ◌∙◌, rules}
+use Rattle.std.proofs.Common.{◌≡◌, ◌≤◌, ◌⊎◌, length, ◌++◌, ◌∷◌, [], List, Some, ap, refl, sym, subst, ◌∙◌, rules}
 use Rattle.mc_item.specs.Command.{key_of}
 use Rattle.mc_item.specs.declared.{fault.Fault.TheVariants.HistoryFull, stripe_event.Cause.TheVariants.Expired, stripe_event.StripeEvent.StripeEvent}
 use Rattle.mc_item.specs.declared.item.ClassNo.{ClassNo}
@@ -193,7 +193,7 @@ returns-in_err-done-clause-full g c = λ is.
     let lent = c.class-inside.inside.0.0 in
     let same : c.in_err-done.field-0.0 ≡ HistoryFull = err_is c.in_err-done.field-0.0 _ c.from_residual.ensures.1 is in
     let end = c.learn.new.stripe in
-    subst (λ (n : ClassNo). (end.stripe.limit < length end.stripe.history + 2) ⊎ LacksPlaces g.N.Named.config end.sight n 2) (sym (number g at))
+    subst (λ (n : ClassNo). (end.stripe.limit ≤ length end.stripe.history) ⊎ LacksPlaces g.N.Named.config end.sight n 1) (sym (number g at))
     (short_paired _ _ _ _ c.own.invariant c.class.invariant.held _ own.owner own.seen (own_is g at) _ lent.owner lent.seen (class_is g at) (agree g at) _ _ kept.site (grows g at) c.history-2.ensures.legal
     c.law-2.ensures.lawful kept.agreement kept.sight _ c.catch_up_stripe.ensures.told _ c.catch_up_class.ensures.told _ _ _ _ c.hear.ensures.class c.hear.ensures.told c.hear.ensures.grows (own_last g at)
     c.hear-2.ensures.told c.hear-2.ensures.grows (subst (MayFail c.settle-done.new.class c.settle-done.new.stripe) same c.in_err-done.ensures.refusal.full))

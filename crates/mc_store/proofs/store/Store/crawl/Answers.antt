@@ -1,8 +1,8 @@
-use Rattle.std.proofs.Common.{◌++◌, ◌∷◌, [], ◌≡◌, ◌+◌, ℕ, Err, ap, ◌∙◌, length, refl, subst, sym, inl, inr, drop, take, arith}
+use Rattle.std.proofs.Common.{◌++◌, ◌∷◌, [], ◌≡◌, ◌<◌, ◌+◌, ℕ, Err, ap, ◌∙◌, length, refl, subst, sym, inl, inr, drop, take, arith}
 use Rattle.std.proofs.Math.Seq.{take-length}
-use Rattle.std.proofs.lemmas.List.{take-append-drop, take_more}
+use Rattle.std.proofs.lemmas.List.{length-take-le, take-append-drop, take_more}
 use Rattle.mc_item.specs.Counts.{no_counts}
-use Rattle.mc_item.specs.declared.{counts.Histogram.Histogram, fault.Fault.Fault, item.Link.Link, item.Who.Who}
+use Rattle.mc_item.specs.declared.{counts.Histogram.Histogram, item.Link.Link, item.Who.Who}
 use Rattle.mc_item.specs.declared.fault.Fault.TheVariants.{HistoryFull, NoMemory}
 use Rattle.mc_board.specs.Histories.{list_at}
 use Rattle.mc_crawl.specs.CrawlCount.{IsBalanced}
@@ -53,9 +53,12 @@ returns-in_err-crawl_link-clause-cut g c =
     let i = c.loop-i.invariant in
     let links = c.in_ok-links.links.items in
     let new = c.crawl_link.new.pass in
+    let below : c.loop-i.i < length links = omega (arith, c.loop-i-test.true, c.len-i-end.ensures) in
+    let taken : length (take c.loop-i.i links) ≡ c.loop-i.i = length-take-le c.loop-i.i links (omega (arith, below)) in
     if_err_of c.in_err-crawl_link.field-0.0 c.from_residual-in_err-crawl_link.result _ c.from_residual-in_err-crawl_link.ensures.1
     (inr (so_far_till g.N.Named.config c.args.class c.args.pass.now c.loop-i.pass new c.in_ok-who.who c.args.moment links (take c.loop-i.i links) c.loop-i.histogram i.3 i.7
-    (drop c.loop-i.i links, take-append-drop c.loop-i.i links) c.crawl_link.ensures.grows.seen c.in_err-crawl_link.ensures.counted
+    ((drop c.loop-i.i links, take-append-drop c.loop-i.i links), inr (omega (arith, below, taken)))
+    c.crawl_link.ensures.grows.seen c.in_err-crawl_link.ensures.counted
     (ap (λ (p : PassView). p.calls) c.crawl_link.ensures.same ∙ i.8) c.in_err-crawl_link.field-0.0
     (λ is. c.crawl_link.ensures.full (c.in_err-crawl_link.was ∙ ap Err is))))
 
