@@ -18,9 +18,9 @@ use Rattle.mc_segment.specs.{ClassCalls.limited_event, ClassState.ClassView}
 use Rattle.mc_stripe.specs.{Plan.dead_link, Plan.visible_row, StripeState.Stripe, StripeState.stripe}
 use Rattle.mc_store.specs.{Accounts.IsOfCommand, Accounts.Stretch, Commands.IsSearch, Commands.LeadsUp, Commands.burial, Searches.IsSearchFor}
 use Rattle.mc_store.specs.{Calls.IsJuggledBy, Calls.IsLimitedBy, Calls.IsRepliedBy, Locked.setting_of, Locked.class_lock, Sides.class_told, Sides.stripe_told, Crawls.AreLinksCounted}
-use Rattle.mc_store.specs.{Crawls.HasReclaims, Crawls.IsCrawledBy, Earned.IsLastResort, Passes.PassView, Passes.next_who, Reached.seen_stripes}
+use Rattle.mc_store.specs.{Crawls.HasReclaims, Crawls.IsCrawledBy, Earned.IsLastResort, Headline.answered_did, Passes.PassView, Passes.next_who, Reached.seen_stripes}
 use Rattle.mc_store.proofs.{EarnedRefusalLemmas.opened_again, LockKeepsLemmas.site_of_number}
-use Rattle.mc_driver.specs.{Caller.EntersOnly, Caller.IsBefore, Caller.histories_seen, Noted.answered_command, Noted.answered_event, Noted.stripe_with, Searched.NotesSearchFor}
+use Rattle.mc_driver.specs.{Caller.EntersOnly, Caller.IsBefore, Caller.histories_seen, Noted.answered_event, Noted.stripe_with, Searched.NotesSearchFor}
 use Rattle.mc_driver.specs.Stand.{Grow, StandsBetween, stripe_number}
 use Rattle.mc_driver.proofs.{EnteredCallLemmas.entered_only, EnteredCallLemmas.stands_within, NotedPlaceLemmas.class_begins, NotedPlaceLemmas.stripe_begins}
 
@@ -89,13 +89,13 @@ replied_between config before after command moment reply some grows earlier by =
           split = now ∙ (answered.history_is
               ∙ ap (λ (r : Reply). (by.old.history ++ answered.before) ++ answered_event who command moment r answered.room ∷ []) by.replied.reply_is);
           earned = λ class is.
-              subst (λ (r : Reply). WasTried (site_in (setting_of config) number) class ((histories_seen config after.sight).classes class) (answered_command who command moment r answered.room)) by.replied.reply_is
-              (subst (λ (t : Site). WasTried t class ((histories_seen config after.sight).classes class) (answered_command who command moment answered.reply answered.room)) site (by.replied.earned.tried class));
+              subst (λ (r : Reply). WasTried (site_in (setting_of config) number) class ((histories_seen config after.sight).classes class) (answered_did who command moment r answered.room)) by.replied.reply_is
+              (subst (λ (t : Site). WasTried t class ((histories_seen config after.sight).classes class) (answered_did who command moment answered.reply answered.room)) site (by.replied.earned.tried class));
           last = λ class place is room.
               let at : by.old.site.stripe ≡ number = by.grew.number_is in
-              subst (λ (r : Reply). IsLastResort config (record { 0 = number }) class place ((histories_seen config after.sight).classes class) (answered_command who command moment r answered.room)) by.replied.reply_is
+              subst (λ (r : Reply). IsLastResort config (record { 0 = number }) class place ((histories_seen config after.sight).classes class) (answered_did who command moment r answered.room)) by.replied.reply_is
               (subst (λ (n : ℕ). IsLastResort config (record { 0 = n }) class place ((histories_seen config after.sight).classes class)
-              (answered_command who command moment answered.reply answered.room)) at (by.replied.earned.last class place room));
+              (answered_did who command moment answered.reply answered.room)) at (by.replied.earned.last class place room));
           stretch = account.stretch;
           search = subst (λ (t : Site). NotesSearchFor config (visible_row (stripe t config.max_events config.keeps_events by.old.history 0) command moment).need
               (histories_seen config after.sight).classes who moment account.stretch) site

@@ -11,14 +11,14 @@ use Rattle.mc_evidence.proofs.EvidenceGrowthLemmas.{tried_later}
 use Rattle.mc_proto.specs.Answers.{Answer, Counted, Limited, Moved, Replied}
 use Rattle.mc_script.specs.Exchanges.{Asks, Begun, Crawls, Exchange, Juggles, Limits, ScriptCall}
 use Rattle.mc_segment.specs.ClassCalls.{limited_event, refused_event}
-use Rattle.mc_store.specs.{Accounts.Stretch, Crawls.HasReclaims, Earned.IsLastResort, Locked.setting_of, Sides.class_told}
+use Rattle.mc_store.specs.{Accounts.Stretch, Crawls.HasReclaims, Earned.IsLastResort, Headline.answered_did, Locked.setting_of, Sides.class_told}
 use Rattle.mc_store.proofs.CrawledLemmas.{links_wider}
 use Rattle.mc_item.specs.Counts.{no_counts}
 use Rattle.mc_crawl.specs.Snapshot.{links_of}
 use Rattle.mc_segment.specs.ClassState.{opened}
 use Rattle.mc_stripe.specs.Plan.{visible_row}
 use Rattle.mc_driver.specs.Cut.{NotesCommandCut, NotesCrawlingCut, NotesJugglingCut, NotesSearchUpTo}
-use Rattle.mc_driver.specs.Noted.{NotesCommand, NotesCrawling, NotesJuggling, NotesLimit, answered_command, answered_event, stripe_with}
+use Rattle.mc_driver.specs.Noted.{NotesCommand, NotesCrawling, NotesJuggling, NotesLimit, answered_event, stripe_with}
 use Rattle.mc_driver.specs.Searched.{NotesSearchFor}
 use Rattle.mc_driver.specs.Stand.{BreaksOffAfter, BreaksOffAs, StandsLast, Grow, Histories, IsPlaced, StandFrom, StandsAs, StandsBehind, StandsBetween, nothing_seen, stripe_number}
 
@@ -92,11 +92,11 @@ command_on config number less seen history longer classes classes_new who comman
       ∙ append_assoc (noted.older ++ noted.made) (answered_event who command moment reply noted.room ∷ noted.behind) more.0);
   earned = λ class is.
       let site = site_in (setting_of config) number in
-      let did = answered_command who command moment reply noted.room in
+      let did = answered_did who command moment reply noted.room in
       let grown = grow class is in
       subst (λ (h : List ClassEvent). WasTried site class h did) grown.1 (tried_later site class (classes class) grown.0 did (noted.earned class is));
   last = λ class place is refused.
-      last_later config (record { 0 = number }) class place (classes class) (classes_new class) (answered_command who command moment reply noted.room) (grow class is) (noted.last class place is refused);
+      last_later config (record { 0 = number }) class place (classes class) (classes_new class) (answered_did who command moment reply noted.room) (grow class is) (noted.last class place is refused);
   stretch = noted.stretch;
   search = search_on config (visible_row (stripe_with config number noted.older) command moment).need classes classes_new who moment noted.stretch grow noted.search;
 }

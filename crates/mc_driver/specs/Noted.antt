@@ -18,7 +18,8 @@ use Rattle.mc_crawl.specs.{CrawlCount.IsBalanced, Snapshot.links_of}
 use Rattle.mc_item.specs.Counts.{no_counts}
 use Rattle.mc_item.specs.declared.reply.Room.TheVariants as rooms
 use Rattle.mc_store.specs.{Accounts.IsOfCommand, Accounts.IsWithin, Accounts.Stretch, Callers.HasNoneOf, Commands.LeadsUp, Crawls.AreLinksCounted}
-use Rattle.mc_store.specs.{Crawls.HasReclaims, Earned.IsLastResort, Hits.AreAdvanced, Locked.setting_of, Made.HasNoneMadeBy, Sides.class_told}
+use Rattle.mc_store.specs.{Crawls.HasReclaims, Earned.IsLastResort, Headline.answered_did, Hits.AreAdvanced, Locked.setting_of}
+use Rattle.mc_store.specs.{Made.HasNoneMadeBy, Sides.class_told}
 use Rattle.mc_stripe.specs.{Plan.visible_row, StripeState.Stripe, StripeState.stripe}
 use Rattle.mc_driver.specs.Searched.{NotesSearchFor}
 
@@ -36,13 +37,9 @@ exchanges_noted (events.Cooled cooled) = []
 abbrev pub exchanges_in : List StripeEvent → List Exchange
 exchanges_in history = flat_map exchanges_noted history
 
--- the answered command with these parts
-abbrev pub answered_command : Who → Command → ℕ → Reply → Room → Did
-answered_command who command moment reply room = record { who = who; command = command; moment = moment; reply = reply; room = room }
-
 -- the event of the answered command with these parts
 abbrev pub answered_event : Who → Command → ℕ → Reply → Room → StripeEvent
-answered_event who command moment reply room = events.Did (answered_command who command moment reply room)
+answered_event who command moment reply room = events.Did (answered_did who command moment reply room)
 
 -- the stripe with this number in a configuration, with this history
 abbrev pub stripe_with : Config → ℕ → List StripeEvent → Stripe
@@ -68,9 +65,9 @@ pub record NotesCommand (config : Config) (number : ℕ) (seen history : List St
   pub led_up : LeadsUp config who command moment (stripe_with config number older) made
   pub split : history ≡ (older ++ made) ++ answered_event who command moment reply room ∷ behind
   pub earned : (class : ClassNo) → IsClass (setting_of config) class
-      → WasTried (site_in (setting_of config) number) class (classes class) (answered_command who command moment reply room)
+      → WasTried (site_in (setting_of config) number) class (classes class) (answered_did who command moment reply room)
   pub last : (class : ClassNo) (place : ℕ) → IsClass (setting_of config) class → room ≡ rooms.Refused class place
-      → IsLastResort config (record { 0 = number }) class place (classes class) (answered_command who command moment reply room)
+      → IsLastResort config (record { 0 = number }) class place (classes class) (answered_did who command moment reply room)
   pub stretch : Stretch
   pub search : NotesSearchFor config (visible_row (stripe_with config number older) command moment).need classes who moment stretch
 

@@ -1,8 +1,8 @@
 -- Which runs are accepted, and the store that a run leaves.
 use Rattle.std.specs.Prelude.{ℕ, ◌≡◌, ◌<◌, ◌≤◌, ◌+◌, ◌-◌, ◌⊎◌, List, [], ◌∷◌, Some, None, length, slice_get, slice_index}
 use Rattle.mc_item.specs.{Config.fault_of, Stripe.IsLegal}
-use Rattle.mc_item.specs.declared.{answer.Site.Site, config.Config.Config, item.ClassNo.ClassNo}
-use Rattle.mc_evidence.specs.Sound.{IsSoundStore}
+use Rattle.mc_item.specs.declared.{config.Config.Config, item.ClassNo.ClassNo}
+use Rattle.mc_evidence.specs.{Setting.site_in, Sound.IsSoundStore}
 use Rattle.mc_segment.specs.ClassState.{ClassView}
 use Rattle.mc_stripe.specs.StripeState.{Stripe}
 use Rattle.mc_pull.specs.Question.{IsClassOf}
@@ -16,10 +16,6 @@ use Rattle.mc_driver.specs.Stand.{Histories}
 -- what a reader of requests needs of a configuration: the size of the last slab class, and the number of classes
 abbrev pub limits_of : Config → Limits
 limits_of config = record { largest = slice_index config.sizes (length config.sizes - 1); classes = length config.sizes }
-
--- the stripe with this number in a configuration
-abbrev pub site_of : Config → ℕ → Site
-site_of config number = record { stripe = number; stripes = config.stripes; sizes = config.sizes }
 
 -- the configuration for so many scripts: a caller for each, one for the maintainer, and one for the crawler
 abbrev pub with_callers : ℕ → Config → Config
@@ -64,7 +60,7 @@ callers_at_work scripts (moment ∷ moments) = scripts + 2
 
 -- this is the stripe with this number in a configuration, and its history is legal
 pub record IsStripe (config : Config) (number : ℕ) (s : Stripe) : Type 0 where
-  pub site : s.site ≡ site_of config number
+  pub site : s.site ≡ site_in (setting_of config) number
   pub limit : s.limit ≡ config.max_events
   pub keeps_events : s.keeps_events ≡ config.keeps_events
   pub legal : IsLegal s.site s.history
