@@ -72,8 +72,8 @@ module _ (notes notes' : Notes) (caller : ℕ) (follows : (calls : List Exchange
     leaves_as Output bytes left leaves = broken_as bytes left leaves
 
   module _ (limits : Limits) (work : List Request) where
-    broken_off_as : (fault : Fault) → HasBrokenOff fault limits work notes caller → HasBrokenOff fault limits work notes' caller
-    broken_off_as fault off = record {
+    broken_off_as : HasBrokenOff limits work notes caller → HasBrokenOff limits work notes' caller
+    broken_off_as off = record {
       answered = off.answered;
       request = off.request;
       back = off.back;
@@ -85,8 +85,8 @@ module _ (notes notes' : Notes) (caller : ℕ) (follows : (calls : List Exchange
     -- what upkeep leaves, by how it ended
     pub keeps_up_as : (outcome : Outcome) → KeepsUp outcome limits work notes caller → KeepsUp outcome limits work notes' caller
     keeps_up_as Done kept = record { answered = kept.answered; asked = kept.asked; whole = kept.whole; calls = follows _ _ kept.calls }
-    keeps_up_as Memory kept = broken_off_as _ kept
-    keeps_up_as HistoryFull kept = broken_off_as _ kept
+    keeps_up_as Memory kept = broken_off_as kept
+    keeps_up_as HistoryFull kept = broken_off_as kept
     keeps_up_as Input kept = kept
     keeps_up_as Output kept = kept
 

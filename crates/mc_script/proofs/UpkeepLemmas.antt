@@ -4,10 +4,10 @@ use Rattle.std.specs.Prelude.{None, slice_index_or}
 use Rattle.std.specs.List.{flat_map}
 use Rattle.std.proofs.Math.Seq.{take-suc}
 use Rattle.std.proofs.lemmas.List.{take-append-drop}
-use Rattle.mc_item.specs.declared.fault.Fault.{Fault}
+use Rattle.mc_item.specs.declared.fault.Fault.TheVariants as faults
 use Rattle.mc_proto.specs.declared.{request.Limits.Limits, request.Request.Request}
 use Rattle.mc_proto.specs.declared.request.Request.TheVariants as requests
-use Rattle.mc_script.specs.{Calls.Answers, Calls.CallsView, Calls.Fails, Calls.IsSameCaller, Progress.HasAnswered, Run.IsCutOff, Run.first_moment}
+use Rattle.mc_script.specs.{Calls.Answers, Calls.BreaksAmong, Calls.CallsView, Calls.IsSameCaller, Progress.HasAnswered, Run.IsCutOff, Run.first_moment}
 use Rattle.mc_script.specs.Script.{Answered, all_exchanges, answered, calls_of, ends, moment_after, requests_of, turn_behind}
 use Rattle.mc_script.specs.Upkeep.{HasBrokenOff, HasKeptUp, WorksAll, directive_of, many_calls, work_of}
 use Rattle.mc_script.specs.declared.{upkeep.Keeper.Keeper, upkeep.Keeper.TheVariants.Maintainer, upkeep.Keeper.TheVariants.Crawler}
@@ -76,9 +76,9 @@ module _ {limits : Limits} {keeper : Keeper} {moments : List ℕ} {now : CallsVi
       }
 
   -- a call failed at the next moment
-  pub kept_fails : {fault : Fault} {all : List ℕ} {first next : CallsView} (later : List ℕ) → IsSameCaller first now → Fails fault limits (directive_of keeper) moment now next
-      → IsSameCaller now next → all ≡ moments ++ moment ∷ later → HasBrokenOff fault limits (work_of keeper all) next.notes first.caller
-  kept_fails {fault = fault} {next = next} later so_far fails same split =
+  pub kept_fails : {all : List ℕ} {first next : CallsView} (later : List ℕ) → IsSameCaller first now → BreaksAmong (calls_of limits (directive_of keeper)) moment now next
+      → IsSameCaller now next → all ≡ moments ++ moment ∷ later → HasBrokenOff limits (work_of keeper all) next.notes first.caller
+  kept_fails {next = next} later so_far fails same split =
       let f = failed at_moment fails same.caller refl (goes_on keeper) in
       record {
         answered = before;
@@ -89,7 +89,7 @@ module _ {limits : Limits} {keeper : Keeper} {moments : List ℕ} {now : CallsVi
             ∙ sym (append_assoc (requests_of kept.answered) (requests.At moment ∷ []) (directive_of keeper ∷ work_of keeper later))
             ∙ ap (λ (rs : List Request). rs ++ directive_of keeper ∷ work_of keeper later) (sym (requests_of-append kept.answered (answered (requests.At moment) [] ∷ [])));
         whole = f.whole;
-        cut = subst (IsCutOff fault limits (directive_of keeper) before next.notes) (same.caller ∙ so_far.caller) f.cut;
+        cut = subst (IsCutOff faults.HistoryFull limits (directive_of keeper) before next.notes) (same.caller ∙ so_far.caller) f.cut;
       }
 
 -- all of it was done

@@ -74,6 +74,10 @@ pub record AreCutOff (fault : Fault) (calls : List ScriptCall) (caller turn mome
 pub record Breaks (fault : Fault) (calls : List ScriptCall) (moment : ℕ) (old new : CallsView) : Type 0 where
   pub at : (before : List Exchange) → old.notes before None → AreCutOff fault calls old.caller old.turn moment before new.notes
 
+-- the first of these calls were made, and then one of them failed: fewer than all, as after a full history
+abbrev pub BreaksAmong : List ScriptCall → ℕ → CallsView → CallsView → Type 0
+BreaksAmong calls moment old new = Breaks faults.HistoryFull calls moment old new
+
 -- a request was answered: all its calls were made, and its text was added
 pub record Answers (limits : Limits) (request : Request) (moment : ℕ) (old new : CallsView) (text text' : List ℕ) : Type 0 where
   pub answers : List Answer

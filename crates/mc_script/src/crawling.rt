@@ -1,8 +1,8 @@
 //! `%crawl`, the crawler's directive: one call for each class that it names, and a text with the sum of their histograms.
-ghost use Rattle.std.specs.Prelude.{◌+◌, ◌<◌, ◌≤◌, ◌^◌, ℕ, map, IfErr, IfOk, OnOk};
+ghost use Rattle.std.specs.Prelude.{◌+◌, ◌<◌, ◌≤◌, ◌^◌, ℕ, map, IfErr, IfOk, OnErr, OnOk};
 ghost use Rattle.mc_proto.specs.{Answers.counts_of, Grammar.AreAmong};
 ghost use Rattle.mc_proto.specs.declared.request.Request.TheVariants as requests;
-ghost use Rattle.mc_script.specs.Calls.{Answers, Begins, Breaks, Fails, GoesOn, MayAnswer, SumsUp};
+ghost use Rattle.mc_script.specs.Calls.{Answers, Begins, BreaksAmong, Fails, GoesOn, MayAnswer, SumsUp};
 ghost use Rattle.mc_script.specs.{Exchanges.Crawls, Script.classes_from, Script.classes_named};
 
 use crate::calls::Calls;
@@ -24,7 +24,7 @@ fn crawl_from<C: Calls>(
     requires there { (n : ℕ) → first ≤ n → n < first + count → (C.view calls.old).has_class (record { 0 = n }) }
     ensures caller { GoesOn (C.view calls.old) (C.view calls.new) result }
     ensures ok { IfOk result (λ histogram. SumsUp Crawls counts_of (classes_from first count) histogram moment (C.view calls.old) (C.view calls.new)) }
-    ensures err { IfErr result (λ e. Breaks e (map Crawls (classes_from first count)) moment (C.view calls.old) (C.view calls.new)) }
+    ensures err { OnErr result (BreaksAmong (map Crawls (classes_from first count)) moment (C.view calls.old) (C.view calls.new)) }
 {
     let mut sum = Histogram::new();
     for i in 0..count {
@@ -46,7 +46,7 @@ pub(crate) fn crawl_target<C: Calls>(
     requires among { AreAmong limits target }
     ensures caller { GoesOn (C.view calls.old) (C.view calls.new) result }
     ensures ok { IfOk result (λ histogram. SumsUp Crawls counts_of (classes_named limits target) histogram moment (C.view calls.old) (C.view calls.new)) }
-    ensures err { IfErr result (λ e. Breaks e (map Crawls (classes_named limits target)) moment (C.view calls.old) (C.view calls.new)) }
+    ensures err { OnErr result (BreaksAmong (map Crawls (classes_named limits target)) moment (C.view calls.old) (C.view calls.new)) }
 {
     match target {
         Target::All => crawl_from(rt, calls, 1, limits.classes, moment),

@@ -1,8 +1,8 @@
 //! `%juggle`, the maintainer's directive: one call for each class that it names, and a text with the sums of their moves.
-ghost use Rattle.std.specs.Prelude.{◌+◌, ◌<◌, ◌≤◌, ◌^◌, ℕ, map, IfErr, IfOk, OnOk};
+ghost use Rattle.std.specs.Prelude.{◌+◌, ◌<◌, ◌≤◌, ◌^◌, ℕ, map, IfErr, IfOk, OnErr, OnOk};
 ghost use Rattle.mc_proto.specs.{Answers.moves_of, Grammar.AreAmong};
 ghost use Rattle.mc_proto.specs.declared.request.Request.TheVariants as requests;
-ghost use Rattle.mc_script.specs.Calls.{Answers, Begins, Breaks, Fails, GoesOn, MayAnswer, SumsUp};
+ghost use Rattle.mc_script.specs.Calls.{Answers, Begins, BreaksAmong, Fails, GoesOn, MayAnswer, SumsUp};
 ghost use Rattle.mc_script.specs.{Exchanges.Juggles, Script.classes_from, Script.classes_named};
 
 use crate::calls::Calls;
@@ -24,7 +24,7 @@ fn juggle_from<C: Calls>(
     requires there { (n : ℕ) → first ≤ n → n < first + count → (C.view calls.old).has_class (record { 0 = n }) }
     ensures caller { GoesOn (C.view calls.old) (C.view calls.new) result }
     ensures ok { IfOk result (λ moves. SumsUp Juggles moves_of (classes_from first count) moves moment (C.view calls.old) (C.view calls.new)) }
-    ensures err { IfErr result (λ e. Breaks e (map Juggles (classes_from first count)) moment (C.view calls.old) (C.view calls.new)) }
+    ensures err { OnErr result (BreaksAmong (map Juggles (classes_from first count)) moment (C.view calls.old) (C.view calls.new)) }
 {
     let mut sums = Moves {
         reclaimed: 0,
@@ -50,7 +50,7 @@ pub(crate) fn juggle_target<C: Calls>(
     requires among { AreAmong limits target }
     ensures caller { GoesOn (C.view calls.old) (C.view calls.new) result }
     ensures ok { IfOk result (λ moves. SumsUp Juggles moves_of (classes_named limits target) moves moment (C.view calls.old) (C.view calls.new)) }
-    ensures err { IfErr result (λ e. Breaks e (map Juggles (classes_named limits target)) moment (C.view calls.old) (C.view calls.new)) }
+    ensures err { OnErr result (BreaksAmong (map Juggles (classes_named limits target)) moment (C.view calls.old) (C.view calls.new)) }
 {
     match target {
         Target::All => juggle_from(rt, calls, 1, limits.classes, moment),

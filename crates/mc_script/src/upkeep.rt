@@ -1,7 +1,7 @@
 //! Upkeep: the maintainer and the crawler work on all slab classes, at given moments (times in seconds).
-ghost use Rattle.std.specs.Prelude.{◌≡◌, ◌≤◌, ◌^◌, [], IfErr, OnOk};
+ghost use Rattle.std.specs.Prelude.{◌≡◌, ◌≤◌, ◌^◌, [], OnErr, OnOk};
 ghost use Rattle.std.specs.List.{All};
-ghost use Rattle.mc_script.specs.{Calls.Fails, Calls.GoesOn, Calls.MayAnswer, Run.LeavesCaller, Run.MayStart};
+ghost use Rattle.mc_script.specs.{Calls.BreaksAmong, Calls.GoesOn, Calls.MayAnswer, Run.LeavesCaller, Run.MayStart, Script.calls_of};
 ghost use Rattle.mc_script.specs.Upkeep.{KeepsUp, WorksAll, directive_of, many_calls, work_of};
 ghost use Rattle.mc_script.specs.declared.outcome.Outcome.TheVariants as outcomes;
 
@@ -33,7 +33,7 @@ fn keep_all<C: Calls>(
     requires ready { MayAnswer limits moment (C.view calls.old) }
     ensures caller { GoesOn (C.view calls.old) (C.view calls.new) result }
     ensures ok { OnOk result (WorksAll limits keeper moment (C.view calls.old) (C.view calls.new)) }
-    ensures err { IfErr result (λ e. Fails e limits (directive_of keeper) moment (C.view calls.old) (C.view calls.new)) }
+    ensures err { OnErr result (BreaksAmong (calls_of limits (directive_of keeper)) moment (C.view calls.old) (C.view calls.new)) }
 {
     match keeper {
         Keeper::Maintainer => {
@@ -49,7 +49,7 @@ fn keep_all<C: Calls>(
 /// Does a keeper's work, and returns how it ended. At each moment in order, makes a call for each slab class in rising order.
 ///
 /// The calls are those of a script with `%at` and `%juggle all`, or `%crawl all`, but nothing is read or printed.
-/// Makes no call after one that failed. Without moments, `calls` is unchanged.
+/// Makes no call after one that failed, and fails only if a call does. Without moments, `calls` is unchanged.
 /// The caller must be at turn 0, each moment at most 2^62, and the slab classes of `limits` must exist.
 pub fn run_upkeep<C: Calls>(
     rt: &impl Wait,

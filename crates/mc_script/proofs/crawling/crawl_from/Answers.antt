@@ -7,7 +7,7 @@ use Rattle.mc_script.proofs.crawling.crawl_from.Goals as goal
 
 pub returns-in_err-histogram-clause-err : goal.returns-in_err-histogram-clause-err
 returns-in_err-histogram-clause-err g c =
-    let made = class_fails c.args.first c.loop-i.i {fault = c.in_err-histogram.field-0.0} {all = c.args.count} (omega arith) c.loop-i.invariant.crawled c.in_err-histogram.ensures.err in
+    let made = class_fails c.args.first c.loop-i.i {all = c.args.count} (omega arith) c.loop-i.invariant.crawled c.in_err-histogram.ensures.err in
     search rules
 
 pub add-requires : goal.add-requires

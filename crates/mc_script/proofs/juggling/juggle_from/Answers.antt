@@ -5,7 +5,7 @@ use Rattle.mc_script.proofs.juggling.juggle_from.Goals as goal
 
 pub returns-in_err-moves-clause-err : goal.returns-in_err-moves-clause-err
 returns-in_err-moves-clause-err g c =
-    let made = class_fails c.args.first c.loop-i.i {fault = c.in_err-moves.field-0.0} {all = c.args.count} (omega arith) c.loop-i.invariant.juggled c.in_err-moves.ensures.err in
+    let made = class_fails c.args.first c.loop-i.i {all = c.args.count} (omega arith) c.loop-i.invariant.juggled c.in_err-moves.ensures.err in
     search rules
 
 pub loop-i-preserved : goal.loop-i-preserved
