@@ -17,7 +17,7 @@ when the input has ended and its scripts have run.
 A line ends in CR LF or in LF. After a storage line (set to prepend, and cas) comes its block: as
 many bytes as the line says, then CR LF. After a line that is refused no block is skipped. All lines
 but those of get, gets, gat, gats, quit and directives may end in the word noreply. Then nothing is
-printed for the line, not even what is wrong with it.
+printed for the line, except ERROR for a wrong number of words.
 
 Directives are lines in the place of a command:
   %at <second>      sets the time, at first 1000, for what follows; it has no reply
@@ -55,16 +55,18 @@ Limits:
 
 An item has a chunk of the smallest slab class that holds 64 bytes, its key and its value. If that
 class has no free chunk, one is taken from an item near the tail of the class's lists. If none can
-be taken, the reply is SERVER_ERROR out of memory storing object.
+be taken, the reply is SERVER_ERROR out of memory storing object, or SERVER_ERROR out of memory to
+incr and decr.
 
 Each key belongs to one stripe. Each stripe and each slab class counts its events, as many as
 --events allows. A stripe counts one for each command that is answered (of a get or gat one for each
 key), for each item that is removed since it is dead or its chunk is taken, and for each mark that
-is cleared. A class counts one for each entry that is added, moved or removed, one for each %chunks,
-and one or two for each %juggle or time of upkeep. A script's calls count against --events too, as
-do those of upkeep: one for each command, for each class that is juggled or crawled, and for each
-%chunks. No event is kept: memory holds the items, and without --follow the input and the replies.
-With n stripes the new versions of a stripe's items have cas numbers n apart.
+is cleared. A class counts one for each entry that is added, moved or removed, one for each search
+that finds no chunk, one for each %chunks, and one or two for each %juggle or time of upkeep. A
+script's calls count against --events too, as do those of upkeep: one for each command, for each
+class that is juggled or crawled, and for each %chunks. No event is kept: memory holds the items,
+and without --follow the input and the replies. With n stripes the new versions of a stripe's items
+have cas numbers n apart.
 
 Exit statuses, and the lines on standard error:
   0  all went well, or help or the version was printed
