@@ -1,6 +1,7 @@
 //! The ends of a conversation: the bytes of a reader are answered on a writer as they come.
-ghost use Rattle.std.specs.Prelude.{◌≡◌, [], IfOk, OnErr, OnOk, false};
+ghost use Rattle.std.specs.Prelude.{◌≡◌, [], Err, IfOk, OnErr, OnOk, false};
 ghost use Rattle.std.specs.Io.KnownBytes.{Appends, Consumes, IsAtEnd, Keeps};
+ghost use Rattle.mc_script.specs.declared.source.SourceFault.TheVariants.{NoMemory};
 
 use crate::printing::print_pieces;
 use crate::reading::read_once;
@@ -67,15 +68,20 @@ impl<'a, R: Read, W: Write> Live<'a, R, W> {
     }
 }
 
-// Reads once. Returns no bytes at the reader's end alone. A read for which there is no memory fails, too.
-fn read_some<R: Read>(alloc: Global, reader: &mut R) -> io::Result<Vec<u8>>
+// Reads once. Returns no bytes at the reader's end alone. After `NoMemory` nothing was read.
+fn read_some<R: Read>(alloc: Global, reader: &mut R) -> Result<Vec<u8>, SourceFault>
     ensures bytes { IfOk result (λ piece. Consumes (R.remaining reader.old) (R.remaining reader.new) piece.items) }
     ensures end { IfOk result (λ piece. piece.items ≡ [] → IsAtEnd (R.remaining reader.new)) }
     ensures err { OnErr result (Keeps (R.remaining reader.old) (R.remaining reader.new)) }
+    ensures none { result ≡ Err NoMemory → reader.new ≡ reader.old }
 {
     let mut piece = Vec::new(alloc);
-    piece.resize(ROOM, 0)?;
-    let came = read_once(reader, piece.as_mut_slice())?;
+    if piece.resize(ROOM, 0).is_err() {
+        return Err(SourceFault::NoMemory);
+    }
+    let Ok(came) = read_once(reader, piece.as_mut_slice()) else {
+        return Err(SourceFault::Failed);
+    };
     piece.truncate(came);
     Ok(piece)
 }
@@ -119,10 +125,11 @@ impl<'a, R: Read, W: Write> Ends for Live<'a, R, W> {
                 self.came.push(&piece);
                 Ok(Some(piece))
             }
-            Err(_) => {
+            Err(SourceFault::Failed) => {
                 self.failed = true;
-                Err(SourceFault)
+                Err(SourceFault::Failed)
             }
+            Err(SourceFault::NoMemory) => Err(SourceFault::NoMemory),
         }
     }
 

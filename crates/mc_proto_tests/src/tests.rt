@@ -1,5 +1,5 @@
-//! Tests of the whole: lines, cuts, limits, texts and sinks, and directives in scripts over calls that are made up. Expected values
-//! are written from the rules by hand.
+//! Tests of the whole: lines, cuts, limits, texts and sinks, and scripts over calls that are made up. Expected values are written
+//! from the rules by hand.
 mod dice;
 mod directives;
 mod drawn;
@@ -11,6 +11,7 @@ mod pieces;
 mod plain;
 mod replies;
 mod roundtrip;
+mod short;
 mod show;
 mod sinks;
 mod spelling;

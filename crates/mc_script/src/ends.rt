@@ -1,6 +1,7 @@
 //! The trait `Ends`: where a script's bytes come from, and where its texts go.
-ghost use Rattle.std.specs.Prelude.{◌≡◌, ◌++◌, ◌<◌, ℕ, List, [], IfOk, OnOk, OnErr, MatchOption};
+ghost use Rattle.std.specs.Prelude.{◌≡◌, ◌++◌, ◌<◌, ℕ, List, [], IfErr, IfOk, OnOk, OnErr, MatchOption};
 ghost use Rattle.mc_proto.specs.Text.{IsBeginning};
+ghost use Rattle.mc_script.specs.Source.{CountsRead};
 
 use crate::source::{Source, SourceFault};
 use mc_proto::{ReplyText, Sink, SinkFault};
@@ -24,13 +25,13 @@ pub trait Ends: Drop {
 
     ghost may_ask: { Self → Type 0 };
 
-    /// Returns the next bytes, or `None` at the end. A fault counts as a failed read, and no bytes came.
+    /// Returns the next bytes, or `None` at the end. After a fault no bytes came. `Failed` counts as a failed read, `NoMemory` doesn't.
     fn piece(&mut self) -> Result<Option<Vec<u8>>, SourceFault>
         requires { may_ask self.old }
         ensures ok { IfOk result (λ o. MatchOption o (gave self.old self.new [] × ended self.new)
             (λ v. gave self.old self.new v.items × (over self.new ≡ over self.old))) }
         ensures fine { OnOk result (reads self.new ≡ reads self.old) }
-        ensures err { OnErr result ((reads self.old < reads self.new) × gave self.old self.new []) }
+        ensures err { IfErr result (λ fault. CountsRead fault (reads self.old) (reads self.new) × gave self.old self.new []) }
         ensures taken { taken self.new ≡ taken self.old }
         ensures writes { writes self.new ≡ writes self.old };
 

@@ -12,6 +12,7 @@ use crate::answering::answer_request;
 use crate::calls::Calls;
 use crate::ends::Ends;
 use crate::outcome::Outcome;
+use crate::source::SourceFault;
 use mc_item::{Fault, NoMemory};
 use mc_proto::{Limits, Reader, ReplyText, Request, SinkFault};
 use std::alloc::Global;
@@ -197,7 +198,8 @@ pub fn run_script<E: Ends, C: Calls>(
         let piece = match ends.piece() {
             Ok(Some(piece)) => piece,
             Ok(None) => return Outcome::Done,
-            Err(_) => return Outcome::Input,
+            Err(SourceFault::Failed) => return Outcome::Input,
+            Err(SourceFault::NoMemory) => return Outcome::Memory,
         };
         let requests = match read_piece(&mut reader, piece, ends.keeps_pieces()) {
             Ok(requests) => requests,

@@ -36,7 +36,7 @@ fn asserts_ran<R: Abort>(rt: &R, ran: &Ran, row: &Row) {
 
 fn check_row<R: Abort + Wait>(rt: &R, alloc: Global, row: &Row) {
     let script = Vec::from_slice(alloc, row.script.as_bytes()).expect(rt, "memory");
-    let ran = run_noted(rt, alloc, script, row.most);
+    let ran = run_noted(rt, alloc, script, row.most, false);
     asserts_ran(rt, &ran, row);
 }
 

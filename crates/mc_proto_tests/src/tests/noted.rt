@@ -92,11 +92,12 @@ impl Calls for Noted {
     }
 }
 
-// A source of one piece.
+// A source of one piece. Then comes the end, or memory is short.
 #[derive(Drop)]
 struct Whole {
     alloc: Global,
     bytes: Vec<u8>,
+    short: bool,
 }
 
 impl Source for Whole {
@@ -105,10 +106,13 @@ impl Source for Whole {
     ghost failures = { λ s. 0 };
 
     fn piece(&mut self) -> Result<Option<Vec<u8>>, SourceFault> {
-        if self.bytes.is_empty() {
-            return Ok(None);
+        if !self.bytes.is_empty() {
+            return Ok(Some(mem::replace(&mut self.bytes, Vec::new(self.alloc))));
         }
-        Ok(Some(mem::replace(&mut self.bytes, Vec::new(self.alloc))))
+        if self.short {
+            return Err(SourceFault::NoMemory);
+        }
+        Ok(None)
     }
 }
 
@@ -148,8 +152,14 @@ pub(super) struct Ran {
     pub(super) upkeep: Vec<(u32, u64)>,
 }
 
-/// A script over calls of which so many go well.
-pub(super) fn run_noted<R: Abort + Wait>(rt: &R, alloc: Global, script: Vec<u8>, most: u64) -> Ran {
+/// A script over calls of which so many go well. Memory may be short for what follows its bytes.
+pub(super) fn run_noted<R: Abort + Wait>(
+    rt: &R,
+    alloc: Global,
+    script: Vec<u8>,
+    most: u64,
+    short: bool,
+) -> Ran {
     let mut calls = Noted {
         made: 0,
         most,
@@ -158,6 +168,7 @@ pub(super) fn run_noted<R: Abort + Wait>(rt: &R, alloc: Global, script: Vec<u8>,
     let source = Whole {
         alloc,
         bytes: script,
+        short,
     };
     let sink = Kept {
         rt,

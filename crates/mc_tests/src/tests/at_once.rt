@@ -79,22 +79,21 @@ struct Meeting<'a> {
     own: &'a Signs,
     other: &'a Signs,
     given: bool,
-    late: bool,
 }
 
 impl Source for Meeting<'_> {
-    ghost use Rattle.std.specs.Prelude.{if◌then◌else◌, ◌+◌};
+    ghost use Rattle.std.specs.Prelude.{if◌then◌else◌};
 
     ghost coming = { λ s. s.source.rest.now };
 
-    ghost failures = { λ s. (if s.late then 1 else 0) + (if s.source.failed then 1 else 0) };
+    ghost failures = { λ s. if s.source.failed then 1 else 0 };
 
     fn piece(&mut self) -> Result<Option<Vec<u8>>, SourceFault> {
-        if self.given && !self.late {
+        if self.given && !self.source.failed {
             self.own.asked.store(true, Ordering::SeqCst);
             if !meets(self.other) {
-                self.late = true;
-                return Err(SourceFault);
+                self.source.failed = true;
+                return Err(SourceFault::Failed);
             }
         }
         self.given = true;
@@ -115,7 +114,6 @@ fn meeting_script<'a, R: Abort>(
         own,
         other,
         given: false,
-        late: false,
     };
     let sink = Told {
         kept: Slow::new(rt, alloc, 1 << 20, None),

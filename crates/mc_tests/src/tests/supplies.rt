@@ -62,7 +62,7 @@ impl Source for Pieces<'_> {
             Some(0) => {
                 if !self.failed {
                     self.failed = true;
-                    return Err(SourceFault);
+                    return Err(SourceFault::Failed);
                 }
             }
             Some(left) => {

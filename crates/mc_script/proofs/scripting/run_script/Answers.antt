@@ -1,4 +1,4 @@
-use Rattle.std.proofs.Common.{◌<◌, ◌++◌, ℕ, [], ◌∙◌, ap, refl, arith, subst, inr}
+use Rattle.std.proofs.Common.{◌++◌, [], ◌∙◌, ap, refl, arith, subst, inr}
 use Rattle.std.specs.Prelude.{All, unwrap_or}
 use Rattle.mc_proto.specs.Grammar.{IsModerate}
 use Rattle.mc_proto.specs.declared.request.Limits.{Limits}
@@ -36,22 +36,28 @@ returns-in-Ok-None-clause-leaves g c =
       leaves = λ left none. rw c.in-Ok-None.ensures.taken (rw i.same.caller at (way_ends i.way i.none (none over.1)));
     }
 
-pub returns-in-Err-clause-leaves : goal.returns-in-Err-clause-leaves
-returns-in-Err-clause-leaves g c =
+pub returns-in-Err-Failed-clause-leaves : goal.returns-in-Err-Failed-clause-leaves
+returns-in-Err-Failed-clause-leaves g c =
     let i = c.loop.invariant in
+    let fault = rw c.in-Err-Failed.field-0-is at c.in-Err-Failed.ensures.err in
     record {
       came = i.came;
-      since = since_none g.met.E.Ends.goes_on i.since c.in-Err.ensures.err.1;
-      leaves = λ left none. rw c.in-Err.ensures.taken (rw i.same.caller at (way_runs_out i.way i.none left));
+      since = since_none g.met.E.Ends.goes_on i.since fault.1;
+      leaves = λ left none. rw c.in-Err-Failed.ensures.taken (rw i.same.caller at (way_runs_out i.way i.none left));
     }
 
-pub returns-in-Err-clause-counted : goal.returns-in-Err-clause-counted
-returns-in-Err-clause-counted g c =
+pub returns-in-Err-NoMemory-clause-leaves : goal.returns-in-Err-NoMemory-clause-leaves
+returns-in-Err-NoMemory-clause-leaves g c =
     let i = c.loop.invariant in
-    (subst (λ (n : ℕ). n < g.E.Ends.reads c.piece.new.self) i.reads c.in-Err.ensures.err.0, c.in-Err.ensures.writes ∙ i.writes)
+    let fault = rw c.in-Err-NoMemory.field-0-is at c.in-Err-NoMemory.ensures.err in
+    record {
+      came = i.came;
+      since = since_none g.met.E.Ends.goes_on i.since fault.1;
+      leaves = λ left none. rw c.in-Err-NoMemory.ensures.taken (inr (record { piece = []; run = rw i.same.caller at (way_runs_out i.way i.none left) }));
+    }
 
-pub returns-in-Err-read_piece-clause-leaves : goal.returns-in-Err-read_piece-clause-leaves
-returns-in-Err-read_piece-clause-leaves g c =
+pub returns-in-Err-clause-leaves : goal.returns-in-Err-clause-leaves
+returns-in-Err-clause-leaves g c =
     let i = c.loop.invariant in
     let came = rw c.in-Ok-Some.field-0-is at c.in-Ok-Some.ensures.ok in
     record {
