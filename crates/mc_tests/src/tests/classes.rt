@@ -2,7 +2,7 @@
 use super::{Example, all_hold};
 
 // An item of one byte under a key of one costs 66, so it is of class 1, whose items have at most 96.
-pub(super) static EXAMPLES: [Example; 21] = [
+pub(super) static EXAMPLES: [Example; 23] = [
     Example {
         name: "the third set takes the chunk of the oldest item",
         words: &["mcseg", "--sizes", "96", "--chunks", "2"],
@@ -187,6 +187,23 @@ pub(super) static EXAMPLES: [Example; 21] = [
         words: &["mcseg", "--sizes", "96", "--events", "16"],
         input: "set a 0 0 1|x|set a 0 0 1|x|set a 0 0 1|x|set a 0 0 1|x|set a 0 0 1|x|set a 0 0 1|x|set a 0 0 1|x|set a 0 0 1|x|set b 0 0 1|y|get a b|delete b|",
         output: "STORED|STORED|STORED|STORED|STORED|STORED|STORED|STORED|STORED|VALUE a 0 1|x|VALUE b 0 1|y|END|",
+        status: 1,
+        errors: "mcseg: history full\n",
+    },
+    // Here the class has 15 events too, and to remove its dead item takes the last place.
+    Example {
+        name: "the last place of a class's history takes the removal of a dead item",
+        words: &["mcseg", "--sizes", "96", "--events", "16"],
+        input: "set a 0 10 1|x|set a 0 10 1|x|set a 0 10 1|x|set a 0 10 1|x|set a 0 10 1|x|set a 0 10 1|x|set a 0 10 1|x|set a 0 10 1|x|%at 1010|get a|set b 0 0 1|y|",
+        output: "STORED|STORED|STORED|STORED|STORED|STORED|STORED|STORED|END|",
+        status: 1,
+        errors: "mcseg: history full\n",
+    },
+    Example {
+        name: "and so it does if the crawler removes it",
+        words: &["mcseg", "--sizes", "96", "--events", "16"],
+        input: "set a 0 10 1|x|set a 0 10 1|x|set a 0 10 1|x|set a 0 10 1|x|set a 0 10 1|x|set a 0 10 1|x|set a 0 10 1|x|set a 0 10 1|x|%at 1010|%crawl 1|set b 0 0 1|y|",
+        output: "STORED|STORED|STORED|STORED|STORED|STORED|STORED|STORED|CRAWL 1 1 0 0 0 0|END|",
         status: 1,
         errors: "mcseg: history full\n",
     },
