@@ -55,7 +55,7 @@ pub(crate) fn crawl_target<C: Calls>(
 }
 
 /// Answers `%crawl`: makes a call for each class that it names, and adds the sum of the histograms to the text.
-/// After `NoMemory` or `HistoryFull` some first calls may have been made, and no text was added.
+/// After `NoMemory` or `HistoryFull` some first calls may have been made, and the old text still begins the new.
 #[cold]
 #[inline(never)]
 pub fn answer_crawl<C: Calls>(

@@ -59,7 +59,7 @@ pub(crate) fn juggle_target<C: Calls>(
 }
 
 /// Answers `%juggle`: makes a call for each class that it names, and adds the sums of the moves to the text.
-/// After `NoMemory` or `HistoryFull` some first calls may have been made, and no text was added.
+/// After `NoMemory` or `HistoryFull` some first calls may have been made, and the old text still begins the new.
 #[cold]
 #[inline(never)]
 pub fn answer_juggle<C: Calls>(

@@ -49,7 +49,7 @@ fn keep_all<C: Calls>(
 /// Does a keeper's work, and returns how it ended. At each moment in order, makes a call for each slab class in rising order.
 ///
 /// The calls are those of a script with `%at` and `%juggle all`, or `%crawl all`, but nothing is read or printed.
-/// Makes no call after one that failed, and fails only if a call does. Without moments, `calls` is unchanged.
+/// Makes no call after one that failed. If it fails, not all calls were made. Without moments, `calls` is unchanged.
 /// The caller must be at turn 0, each moment at most 2^62, and the slab classes of `limits` must exist.
 pub fn run_upkeep<C: Calls>(
     rt: &impl Wait,

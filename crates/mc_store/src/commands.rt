@@ -77,8 +77,8 @@ impl<N: Named> Store<N> {
     /// After a fault the stripe's history has gained at most what leads up to the command: the dead item's removal, and a search
     /// for a chunk. The caller's history has gained at most the call. `HistoryFull` comes only if the pass has had `max_events`
     /// turns, or a history lacks places for this command: that of the key's stripe is full, or that of a class lacks places for
-    /// the entries that come and leave. To remove a dead item takes a place in each, and so does each step of a search: if the class
-    /// of a new chunk was ever full, it may be the history of that class or of any stripe that is full.
+    /// the entries that come and leave. To remove a dead item takes a place in each, and a step of a search at most one in each: if
+    /// the class of a new chunk was ever full, it may be the history of that class or of any stripe that is full.
     /// `NoMemory` comes if an allocation fails.
     pub fn command(
         &self,

@@ -183,8 +183,8 @@ impl<N: Named> Store<N> {
     /// class's lock, and only tries those of stripes. A link is counted by its item as the stripe has it after all that the pass had
     /// seen of the stripe. An item that is dead at `moment` is removed, with its entry. `moment` is the time in whole seconds. The
     /// events that it makes are of this class and of stripes.
-    /// After a fault what happened so far stays, and some link was not looked at. `HistoryFull` comes only if the history of this
-    /// class or of a stripe is full, or the pass has had `max_events` turns. `NoMemory` comes if an allocation fails.
+    /// After a fault what happened so far stays: none of the links was counted, or not all. `HistoryFull` comes only if the history
+    /// of this class or of a stripe is full, or the pass has had `max_events` turns. `NoMemory` comes if an allocation fails.
     pub fn crawl(
         &self,
         alloc: Global,
