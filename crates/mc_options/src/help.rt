@@ -34,12 +34,12 @@ Slab classes are numbered from 1, in the order of their sizes.
 
 The input is cut at each %next into scripts. They run at the same time, each as a caller of its own
 that begins at the time 1000. Replies are printed script by script when all have ended. quit ends
-the script: what follows it up to a %next is read and ignored. With --upkeep the maintainer juggles
-and the crawler crawls every slab class at each of the times in order, beside the scripts. Neither
-prints anything.
+the script: what follows it up to a %next is ignored. With --upkeep the maintainer juggles and the
+crawler crawls every slab class at each of the times in order, beside the scripts. Neither prints
+anything.
 
 With --follow the input is one script, and is answered as it comes: before the program reads on, it
-prints the replies to all requests that are whole. %next ends that script, as quit does.
+prints the replies to all requests that are whole. %next or quit ends the program at once.
 
 Limits:
   key           1 to 250 bytes, none of them NUL, LF, CR or space
@@ -55,8 +55,8 @@ Limits:
 
 An item has a chunk of the smallest slab class that holds 64 bytes, its key and its value. If that
 class has no free chunk, one is taken from an item near the tail of the class's lists. If none can
-be taken, the reply is SERVER_ERROR out of memory storing object, or SERVER_ERROR out of memory to
-incr and decr.
+be taken, the reply is SERVER_ERROR out of memory storing object, and to incr and decr it is
+SERVER_ERROR out of memory.
 
 Each key belongs to one stripe. Each stripe and each slab class counts its events, as many as
 --events allows. A stripe counts one for each command that is answered (of a get or gat one for each
@@ -74,7 +74,7 @@ Exit statuses, and the lines on standard error:
        mcseg: out of memory
        mcseg: history full                raise --events
   2  the words of the command line or the number of scripts were refused
-       error: <what is wrong>             no options as above, or no number behind one
+       error: <what is wrong>             no option as above, one twice, or one without a number
        mcseg: a word of the command line is not UTF-8
        mcseg: bad list                    no decimal numbers with one comma between two, or upkeep
                                           at more than 1,000 times or at one above 2^62
