@@ -10,7 +10,7 @@ use Rattle.mc_stripe.specs.StripeState.{Stripe, cache_now}
 use Rattle.mc_pull.specs.declared.{judge.Done.Done, judge.Judge.TheVariants.Dead, looking.Answer.Answer, looking.Judged.Judged}
 use Rattle.mc_pull.specs.declared.judge.Done.TheVariants as done
 use Rattle.mc_pull.specs.{Growth.GainsEvents, Judgement.done_by, Judgement.done_if, Judgement.done_with, Judgement.has_link, Looks.IsReachedIf, Looks.answer_by}
-use Rattle.mc_pull.specs.{Looks.events_if, Settled.done_class_events, Settled.class_with}
+use Rattle.mc_pull.specs.{Looks.done_in, Looks.events_if, Looks.judged_by, Settled.done_class_events, Settled.class_with}
 use Rattle.mc_pull.proofs.GrowthLemmas.{grows_itself}
 use Rattle.mc_crawl.specs.declared.kind.Kind.{Kind}
 use Rattle.mc_crawl.specs.declared.kind.Kind.TheVariants as kinds
@@ -36,29 +36,29 @@ by_entry q c cache None e is = absurd (none_some is)
 by_entry q c cache (Some e') e is = by_item c.number q.number q.moment c.rule (lists_of c.history) e' (cache.items e'.key)
 
 kind_by : (R : Stripe → Type 0) (q : Crawl) (c : ClassView) (e : Entry) (stripe : _) (j : Option Judged) → entry_of q.number (lists_of c.history) ≡ Some e
-    → IsReachedIf R q.config stripe c (asked_by q) j → IsKindIf R q stripe c j (kind_answered q.moment j)
+    → IsReachedIf R q.config stripe c (asked_by q) j → IsKindIf R q stripe c j (kind_answered q.moment (done_in j))
 kind_by R q c e stripe None is judged = refl
 kind_by R q c e stripe (Some j) is judged = record {
   judged = judged.0;
   reached = judged.1;
-  kind_is = ap (kind_done q.moment) judged.0.done_is ∙ by_entry q c (cache_now judged.0.stripe) (entry_of q.number (lists_of c.history)) e is;
+  kind_is = ap (kind_done q.moment) judged.0.done_is ∙ by_entry q c (cache_now (judged_by j)) (entry_of q.number (lists_of c.history)) e is;
 }
 
 -- the kind by what was answered
 pub kind_answered_is : (R : Stripe → Type 0) (q : Crawl) (c : ClassView) (e : Entry) (stripe : StripeNo) (j : Option Judged) (k : Kind) → entry_of q.number (lists_of c.history) ≡ Some e
-    → IsKindIf R q stripe c j k → k ≡ kind_answered q.moment j
+    → IsKindIf R q stripe c j k → k ≡ kind_answered q.moment (done_in j)
 kind_answered_is R q c e stripe None k is kind = kind
 kind_answered_is R q c e stripe (Some j) k is kind =
     kind.kind_is
-    ∙ sym (ap (kind_done q.moment) kind.judged.done_is ∙ by_entry q c (cache_now kind.judged.stripe) (entry_of q.number (lists_of c.history)) e is)
+    ∙ sym (ap (kind_done q.moment) kind.judged.done_is ∙ by_entry q c (cache_now (judged_by j)) (entry_of q.number (lists_of c.history)) e is)
 
 -- an entry that was looked at was crawled
 pub looked : (R : Stripe → Type 0) (q : Crawl) (c c_new : ClassView) (xs ys : List Answer) (e : Entry) (stripe : StripeNo) (j : Option Judged) → entry_of q.number (lists_of c.history) ≡ Some e
     → stripe ≡ stripe_of e.key q.config.stripes → ys ≡ xs ++ answer_by stripe j ∷ [] → c_new ≡ class_with c (events_if c (asked_by q) j) c_new.room
-    → IsReachedIf R q.config stripe c (asked_by q) j → IsCrawled R q c c_new xs ys (kind_answered q.moment j)
+    → IsReachedIf R q.config stripe c (asked_by q) j → IsCrawled R q c c_new xs ys (kind_answered q.moment (done_in j))
 looked R q c c_new xs ys e stripe j is place answers class judged =
     let there = subst (λ (s : StripeNo). IsReachedIf R q.config s c (asked_by q) j) place judged in
-    subst (IsLookIf R q c c_new xs ys (kind_answered q.moment j)) (sym is)
+    subst (IsLookIf R q c c_new xs ys (kind_answered q.moment (done_in j))) (sym is)
     record {
       judged = j;
       answers = subst (λ (s : StripeNo). ys ≡ xs ++ answer_by s j ∷ []) place answers;
@@ -102,9 +102,10 @@ told_with q c at cache (Some e) = told_item q c at c.rule (lists_of c.history) e
 told_if : (R : Stripe → Type 0) (q : Crawl) (c : ClassView) (stripe : StripeNo) (j : Option Judged) (k : Kind) → IsKindIf R q stripe c j k → Told q (events_if c (asked_by q) j) k
 told_if R q c stripe None k is = subst (Told q []) (sym is) (told_nothing q kinds.Passed (λ h. refl))
 told_if R q c stripe (Some j) k is =
-    subst (Told q (done_class_events c (asked_by q) j.at j.done)) (sym is.kind_is)
-    (subst (λ (d : Done). Told q (done_class_events c (asked_by q) j.at d) (kind_with c.number (cache_now is.judged.stripe) q.number q.moment (entry_of q.number (lists_of c.history)))) (sym is.judged.done_is)
-    (told_with q c j.at (cache_now is.judged.stripe) (entry_of q.number (lists_of c.history))))
+    subst (Told q (done_class_events c (asked_by q) (length (judged_by j).history) j.done)) (sym is.kind_is)
+    (subst (λ (d : Done). Told q (done_class_events c (asked_by q) (length (judged_by j).history) d)
+    (kind_with c.number (cache_now (judged_by j)) q.number q.moment (entry_of q.number (lists_of c.history)))) (sym is.judged.done_is)
+    (told_with q c (length (judged_by j).history) (cache_now (judged_by j)) (entry_of q.number (lists_of c.history))))
 
 module _ (R : Stripe → Type 0) (q : Crawl) (c c_new : ClassView) (xs ys : List Answer) (k : Kind) where
   reclaims_if : (h : Histogram) (o : Option Entry) → IsLookIf R q c c_new xs ys k o → Reclaims q.who q.moment c.history c_new.history h.reclaimed (counted_as k h).reclaimed
@@ -137,7 +138,7 @@ module _ (R : Stripe → Type 0) (q : Crawl) (c c_new : ClassView) (xs ys : List
 module _ (R Q : Stripe → Type 0) (more : (s : Stripe) → R s → Q s) (q : Crawl) (c c_new : ClassView) (xs ys : List Answer) (k : Kind) where
   kind_more : (stripe : StripeNo) (j : Option Judged) → IsKindIf R q stripe c j k → IsKindIf Q q stripe c j k
   kind_more stripe None is = is
-  kind_more stripe (Some j) is = record { judged = is.judged; reached = more is.judged.stripe is.reached; kind_is = is.kind_is }
+  kind_more stripe (Some j) is = record { judged = is.judged; reached = more (judged_by j) is.reached; kind_is = is.kind_is }
 
   look_more : (o : Option Entry) → IsLookIf R q c c_new xs ys k o → IsLookIf Q q c c_new xs ys k o
   look_more None gone = gone

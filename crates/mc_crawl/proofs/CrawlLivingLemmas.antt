@@ -146,21 +146,21 @@ first_same : {A : Type 0} {x y : A} → x ∷ [] ≡ y ∷ [] → x ≡ y
 first_same h = cc
 
 module _ (s : Sighting) (h h_new : Histogram) (crawl : CrawlsLiving s h h_new) where
-  open crawl use {q, class, class_new, before, after, kind, stripe, at}
+  open crawl use {q, class, class_new, before, after, kind, stripe, state}
 
   lived : Judged
-  lived = judgement (done.Alive s.expiry) at
+  lived = judgement (done.Alive s.expiry) state
 
   by_entry : (o : Option Entry) → entry_of q.number (lists_of class.history) ≡ o → IsLookIf (λ state. Unit {0}) q class class_new before after kind o → kind ≡ kind_alive q.moment s.expiry
   by_entry None is gone =
-      let empty : [] ≡ answer_by stripe (Some (judgement (done.Alive s.expiry) at)) ∷ [] =
-      append_cancel_left before [] (answer_by stripe (Some (judgement (done.Alive s.expiry) at)) ∷ []) (append-nil before ∙ (sym gone.answers ∙ crawl.answered)) in
+      let empty : [] ≡ answer_by stripe (Some (judgement (done.Alive s.expiry) state)) ∷ [] =
+      append_cancel_left before [] (answer_by stripe (Some (judgement (done.Alive s.expiry) state)) ∷ []) (append-nil before ∙ (sym gone.answers ∙ crawl.answered)) in
       absurd (none_one _ empty)
   by_entry (Some e) is look =
       let asked = stripe_of e.key q.config.stripes in
-      let same = first_same (append_cancel_left before (answer_by asked look.judged ∷ []) (answer_by stripe (Some (judgement (done.Alive s.expiry) at)) ∷ []) (sym look.answers ∙ crawl.answered)) in
+      let same = first_same (append_cancel_left before (answer_by asked look.judged ∷ []) (answer_by stripe (Some (judgement (done.Alive s.expiry) state)) ∷ []) (sym look.answers ∙ crawl.answered)) in
       let told = ap (λ (a : Answer). a.judged) same in
-      kind_answered_is (λ state. Unit {0}) q class e asked (Some (judgement (done.Alive s.expiry) at)) kind is
+      kind_answered_is (λ state. Unit {0}) q class e asked (Some (judgement (done.Alive s.expiry) state)) kind is
       (subst (λ (j : Option Judged). IsKindIf (λ state. Unit {0}) q asked class j kind) told look.kind_is)
 
   living : h_new ≡ with_living s h

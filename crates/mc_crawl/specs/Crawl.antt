@@ -8,7 +8,7 @@ use Rattle.mc_rule.specs.Lists.{lists_of}
 use Rattle.mc_segment.specs.{ClassState.ClassView, Entries.entry_of}
 use Rattle.mc_stripe.specs.StripeState.{Stripe, cache_now}
 use Rattle.mc_pull.specs.declared.{judge.Judge.TheVariants.Dead, looking.Answer.Answer, looking.Judged.Judged}
-use Rattle.mc_pull.specs.{Looks.IsJudged, Looks.answer_by, Looks.events_if, Question.Question, Question.question, Settled.class_with}
+use Rattle.mc_pull.specs.{Looks.IsJudged, Looks.answer_by, Looks.events_if, Looks.judged_by, Question.Question, Question.question, Settled.class_with}
 use Rattle.mc_crawl.specs.declared.kind.Kind.{Kind}
 use Rattle.mc_crawl.specs.declared.kind.Kind.TheVariants as kinds
 use Rattle.mc_crawl.specs.{CrawlCount.counted_as, CrawlKind.kind_of}
@@ -36,8 +36,8 @@ asked_by q = question q.who q.number Dead q.moment
 -- an entry whose stripe was reached counts as this kind, by what the stripe held at that look, and `R` holds of that state
 pub record IsKindBy (R : Stripe → Type 0) (q : Crawl) (stripe : StripeNo) (c : ClassView) (j : Judged) (k : Kind) : Type 0 where
   pub judged : IsJudged q.config stripe c (asked_by q) j
-  pub reached : R judged.stripe
-  pub kind_is : k ≡ kind_of c (cache_now judged.stripe) q.number q.moment
+  pub reached : R (judged_by j)
+  pub kind_is : k ≡ kind_of c (cache_now (judged_by j)) q.number q.moment
 
 -- an entry counts as this kind by a gate's answer: as passed, if the stripe was not reached
 abbrev pub IsKindIf : (Stripe → Type 0) → Crawl → StripeNo → ClassView → Option Judged → Kind → Type 0

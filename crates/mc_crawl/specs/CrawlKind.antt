@@ -6,7 +6,7 @@ use Rattle.mc_item.specs.{Cache.Cache, Item.is_dead}
 use Rattle.mc_rule.specs.Lists.{lists_of}
 use Rattle.mc_segment.specs.{ClassState.ClassView, Entries.entry_of}
 use Rattle.mc_pull.specs.Judgement.{has_link}
-use Rattle.mc_pull.specs.declared.{judge.Done.Done, looking.Judged.Judged}
+use Rattle.mc_pull.specs.declared.judge.Done.{Done}
 use Rattle.mc_pull.specs.declared.judge.Done.TheVariants as done
 use Rattle.mc_crawl.specs.declared.kind.Kind.{Kind}
 use Rattle.mc_crawl.specs.declared.kind.Kind.TheVariants as kinds
@@ -49,10 +49,10 @@ kind_done moment done.ToCold = kinds.Passed
 kind_done moment done.Evicted = kinds.Passed
 kind_done moment done.Stayed = kinds.Passed
 
--- the kind of an entry, by a gate's answer: passed, if the stripe was not reached
-abbrev pub kind_answered : ℕ → Option Judged → Kind
+-- the kind of an entry, by what was done with it: passed, if the stripe was not reached
+abbrev pub kind_answered : ℕ → Option Done → Kind
 kind_answered moment None = kinds.Passed
-kind_answered moment (Some j) = kind_done moment j.done
+kind_answered moment (Some made) = kind_done moment made
 
 -- a histogram has a count for this kind: if it is a minute, that is below 60
 abbrev pub IsCounted : Kind → Type 0

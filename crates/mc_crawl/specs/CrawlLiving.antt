@@ -4,6 +4,7 @@ use Rattle.std.specs.List.{filter}
 use Rattle.mc_item.specs.declared.{counts.Histogram.Histogram, item.Expiry.Expiry, item.Expiry.TheVariants.Never, item.Expiry.TheVariants.At}
 use Rattle.mc_item.specs.declared.item.StripeNo.{StripeNo}
 use Rattle.mc_segment.specs.ClassState.{ClassView}
+use Rattle.mc_stripe.specs.StripeState.{Stripe}
 use Rattle.mc_pull.specs.declared.looking.Answer.{Answer}
 use Rattle.mc_pull.specs.declared.judge.Done.TheVariants as done
 use Rattle.mc_pull.specs.Looks.{answer_by, judgement}
@@ -65,9 +66,9 @@ pub record CrawlsLiving (s : Sighting) (h h_new : Histogram) : Type 0 where
   pub after : List Answer
   pub kind : Kind
   pub stripe : StripeNo
-  pub at : ℕ
+  pub state : Stripe
   pub crawled : IsCrawled (λ state. Unit {0}) q class class_new before after kind
-  pub answered : after ≡ before ++ answer_by stripe (Some (judgement (done.Alive s.expiry) at)) ∷ []
+  pub answered : after ≡ before ++ answer_by stripe (Some (judgement (done.Alive s.expiry) state)) ∷ []
   pub moment_is : q.moment ≡ s.moment
   pub counted : h_new ≡ counted_as kind h
 

@@ -29,8 +29,8 @@ fn kind_at<G: Gate>(
         return Ok(Kind::Gone);
     };
     let stripe = stripe_of(&entry.key, context.config.stripes);
-    let judged = look_at(context, class, stripe, number, &Judge::Dead, gate)?;
-    Ok(kind_of(judged, context.turn.moment))
+    let done = look_at(context, class, stripe, number, &Judge::Dead, gate)?;
+    Ok(kind_of(done, context.turn.moment))
 }
 
 /// Crawls one link of a class's snapshot. If the link's number is still in a list, the gate is asked once for the stripe of the

@@ -4,7 +4,7 @@ ghost use Rattle.mc_crawl.specs.{CrawlCount.counted_as, CrawlCount.IsBalanced, C
 ghost use Rattle.mc_crawl.specs.CrawlKind as words;
 
 use mc_item::{Expiry, Histogram};
-use mc_pull::{Done, Judged};
+use mc_pull::Done;
 
 /// What a crawl counts a link as.
 #[derive(Clone, Copy)]
@@ -58,14 +58,14 @@ fn kind_done(done: Done, moment: u64) -> Kind
     }
 }
 
-// The kind of an entry, by a gate's answer.
-pub(crate) fn kind_of(judged: Option<Judged>, moment: u64) -> Kind
-    ensures value { result ≡ kind_answered moment judged }
+// The kind of an entry, by what was done with it, if its stripe was reached.
+pub(crate) fn kind_of(done: Option<Done>, moment: u64) -> Kind
+    ensures value { result ≡ kind_answered moment done }
     ensures counted { IsCounted result }
 {
-    match judged {
+    match done {
         None => Kind::Passed,
-        Some(judged) => kind_done(judged.done, moment),
+        Some(done) => kind_done(done, moment),
     }
 }
 

@@ -18,7 +18,7 @@ use Rattle.mc_segment.specs.ClassState.{ClassView}
 use Rattle.mc_stripe.specs.{Plan.visible_row, StripeState.stripe}
 use Rattle.mc_store.specs.{Accounts.IsOfCommand, Accounts.Stretch, Calls.IsCutBy, Calls.IsJuggleCut, Calls.IsJuggledTill, Calls.IsLimitedBy, Calls.IsUpkeepCut}
 use Rattle.mc_store.specs.{Crawls.AreLinksCounted, Crawls.IsCrawledTill, Locked.class_lock, Locked.setting_of, Passes.PassView}
-use Rattle.mc_store.specs.{Passes.next_who, Reached.seen_stripes, Searches.IsSearchUpTo, Sides.class_told, Sides.stripe_told}
+use Rattle.mc_store.specs.{Passes.next_who, Reached.IsSeenState, Reached.seen_stripes, Searches.IsSearchUpTo, Sides.class_told, Sides.stripe_told}
 use Rattle.mc_store.proofs.{EarnedRefusalLemmas.opened_again, LockKeepsLemmas.site_of_number, SyncedStepLemmas.map_length}
 use Rattle.mc_driver.specs.{Caller.EntersOnly, Caller.IsBefore, Caller.histories_seen, Cut.NotesJugglingCut, Cut.NotesSearchUpTo}
 use Rattle.mc_driver.specs.Stand.{BreaksOffAfter, stripe_number}
@@ -95,7 +95,7 @@ command_broke config before after command moment fault some grows earlier by =
 -- of juggling: it broke off at a hit, or in the rounds after all hits
 module _ (config : Config) (class : ClassNo) (before after : PassView) (moment : ℕ) (fault : Fault) (till : IsJuggledTill config class before after moment fault) where
   abbrev CutAt : Type 0
-  CutAt = IsUpkeepCut config till.old (record { who = next_who before; moment = moment }) before.hands after.hands till.history_new fault
+  CutAt = IsUpkeepCut config (IsSeenState config.stripes before.sight after.sight) till.old (record { who = next_who before; moment = moment }) before.hands after.hands till.history_new fault
 
   begins : IsPrefix till.history_new ((histories_seen config after.sight).classes class)
   begins = subst (IsPrefix till.history_new) (sym (ap class_events till.grew.now ∙ class_events-map till.history_new)) (prefix_self till.history_new)
@@ -103,7 +103,8 @@ module _ (config : Config) (class : ClassNo) (before after : PassView) (moment :
   past : IsPrefix ((histories_seen config before.sight).classes class) till.old.history
   past = class_begins (list_at before.sight.seen (class_lock config class)) till.old.history till.grew.seen
 
-  noted : CutAt → NotesJugglingCut config ((histories_seen config before.sight).classes class) ((histories_seen config after.sight).classes class) (next_who before) class moment
+  noted : CutAt → NotesJugglingCut config (seen_stripes before.sight) (seen_stripes after.sight)
+      ((histories_seen config before.sight).classes class) ((histories_seen config after.sight).classes class) (next_who before) class moment
   noted (inl at) =
       let few = at.few in
       record {
@@ -129,7 +130,11 @@ module _ (config : Config) (class : ClassNo) (before after : PassView) (moment :
         advanced = rest.0;
         moved = rest.1.advanced;
         after = till.history_new;
-        cut = inr (fault, subst (λ (r : Rounds). IsJuggleCut r fault rest.0 till.history_new) (ap (λ (v : ClassView). rounds v (next_who before) moment config) same) rest.2);
+        cut = inr (
+          fault,
+          subst (λ (r : Rounds). IsJuggleCut (IsSeenState config.stripes before.sight after.sight) r fault rest.0 till.history_new)
+              (ap (λ (v : ClassView). rounds v (next_who before) moment config) same) rest.2,
+        );
         begins = begins;
       }
 

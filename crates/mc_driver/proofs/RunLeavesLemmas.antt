@@ -89,7 +89,7 @@ module _ (config : Config) (final : FinalView) (all : AreStripes final.board con
       | inl below ↦
           let long : length (list_at sight.seen short.lock) ≤ length (stripe_histories final.stripes short.lock) =
           subst (λ (n : ℕ). length (list_at sight.seen short.lock) ≤ n) (map_length _ (stripe_histories final.stripes short.lock)) (prefix_length _ _ (stripe_seen short.lock below)) in
-          inl (record { number = short.lock; below = below; full = omega (arith, short.short, long) })
+          inl (record { number = short.lock; below = below; full = let full = short.stripe below in omega (arith, full, long) })
       | inr past ↦
           let class : ClassNo = record { 0 = suc (short.lock - config.stripes) } in
           let first : 1 ≤ class.0 = omega arith in

@@ -12,13 +12,13 @@ use Rattle.mc_board.specs.declared.rule.Sight.{Sight}
 use Rattle.mc_evidence.specs.{Seen.class_events, Seen.classes_seen, Seen.stripe_events, Refusals.WasTried, Setting.IsClass, Setting.site_in, Locks.ClassKeeps, Locks.StripeKeeps}
 use Rattle.mc_evidence.proofs.SeenLemmas.{class_events-append, class_events-map, classes_grow, stripe_events-map, stripes_grow}
 use Rattle.mc_proto.specs.Answers.{Counted, Limited, Moved, Replied}
-use Rattle.mc_pull.specs.{Juggle.IsJuggle, Rounds.Rounds, Rounds.rounds}
+use Rattle.mc_pull.specs.Rounds.{Rounds, rounds}
 use Rattle.mc_script.specs.Exchanges.{Asks, Crawls, Juggles, Limits, exchange}
 use Rattle.mc_segment.specs.{ClassCalls.limited_event, ClassState.ClassView}
 use Rattle.mc_stripe.specs.{Plan.dead_link, Plan.visible_row, StripeState.Stripe, StripeState.stripe}
 use Rattle.mc_store.specs.{Accounts.IsOfCommand, Accounts.Stretch, Commands.IsSearch, Commands.LeadsUp, Commands.burial, Searches.IsSearchFor}
-use Rattle.mc_store.specs.{Calls.IsJuggledBy, Calls.IsLimitedBy, Calls.IsRepliedBy, Locked.setting_of, Locked.class_lock, Sides.class_told, Sides.stripe_told, Crawls.AreLinksCounted}
-use Rattle.mc_store.specs.{Crawls.HasReclaims, Crawls.IsCrawledBy, Earned.IsLastResort, Headline.answered_did, Passes.PassView, Passes.next_who, Reached.seen_stripes}
+use Rattle.mc_store.specs.{Calls.IsJuggledBy, Calls.IsJuggledWith, Calls.IsLimitedBy, Calls.IsRepliedBy, Locked.setting_of, Locked.class_lock, Sides.class_told, Sides.stripe_told, Crawls.AreLinksCounted}
+use Rattle.mc_store.specs.{Crawls.HasReclaims, Crawls.IsCrawledBy, Earned.IsLastResort, Headline.answered_did, Passes.PassView, Passes.next_who, Reached.IsSeenState, Reached.seen_stripes}
 use Rattle.mc_store.proofs.{EarnedRefusalLemmas.opened_again, LockKeepsLemmas.site_of_number}
 use Rattle.mc_driver.specs.{Caller.EntersOnly, Caller.IsBefore, Caller.histories_seen, Noted.answered_event, Noted.stripe_with, Searched.NotesSearchFor}
 use Rattle.mc_driver.specs.Stand.{Grow, StandsBetween, stripe_number}
@@ -139,9 +139,8 @@ juggled_between config class before after moment moves is grows earlier by =
           behind = [];
           past = class_begins (list_at before.sight.seen (class_lock config class)) c.history by.grew.seen;
           split = now ∙ (upkept.history_is ∙ sym (append-nil (advanced ++ upkept.own)));
-          answers = upkept.answers;
-          juggled = subst (λ (r : Rounds). IsJuggle r advanced upkept.answers (advanced ++ upkept.own) moves)
-              (ap (λ (v : ClassView). rounds v (next_who before) moment config) same) upkept.juggle;
+          juggled = subst (λ (r : Rounds). IsJuggledWith (IsSeenState config.stripes before.sight after.sight) r advanced (advanced ++ upkept.own) moves)
+              (ap (λ (v : ClassView). rounds v (next_who before) moment config) same) upkept.juggled;
         },
         entered_only before after _ _ earlier by.account (λ lock place event at mine suits. ⊎_elim
             (λ own.

@@ -1,5 +1,5 @@
 -- Calls that stand in histories, or broke off in them, go on doing so where these grow, and after less that was seen.
-use Rattle.std.proofs.Common.{◌≡◌, ◌<◌, ℕ, zero, suc, List, [], ◌∷◌, ◌++◌, Option, None, Some, sym, ap, ◌∙◌, append_assoc, subst, refl, inl, inr}
+use Rattle.std.proofs.Common.{◌≡◌, ◌<◌, ℕ, zero, suc, List, [], ◌∷◌, ◌++◌, Option, None, Some, sym, ap, ◌∙◌, append_assoc, subst, refl, inl, inr, ⊎_elim}
 use Rattle.std.specs.List.{slice_get}
 use mathlib.Core.List.{IsPrefix}
 use Rattle.mc_item.specs.declared.{class_event.ClassEvent.ClassEvent, command.Command.Command, config.Config.Config, counts.Histogram.Histogram}
@@ -12,7 +12,9 @@ use Rattle.mc_proto.specs.Answers.{Answer, Counted, Limited, Moved, Replied}
 use Rattle.mc_script.specs.Exchanges.{Asks, Begun, Crawls, Exchange, Juggles, Limits, ScriptCall}
 use Rattle.mc_segment.specs.ClassCalls.{limited_event, refused_event}
 use Rattle.mc_store.specs.{Accounts.Stretch, Crawls.HasReclaims, Earned.IsLastResort, Headline.answered_did, Locked.setting_of, Sides.class_told}
-use Rattle.mc_store.proofs.CrawledLemmas.{links_wider}
+use Rattle.mc_pull.specs.Rounds.{rounds}
+use Rattle.mc_store.specs.Reached.{IsStateBetween}
+use Rattle.mc_store.proofs.{CrawledLemmas.links_wider, ReachedLemmas.judged_more, ReachedLemmas.state_wider, TakenHitLemmas.cut_more}
 use Rattle.mc_item.specs.Counts.{no_counts}
 use Rattle.mc_crawl.specs.Snapshot.{links_of}
 use Rattle.mc_segment.specs.ClassState.{opened}
@@ -102,9 +104,10 @@ command_on config number less seen history longer classes classes_new who comman
 }
 
 -- and so is juggling
-juggling_on : (config : Config) (less seen history longer : List ClassEvent) (who : Who) (class : ClassNo) (moment : ℕ) (moves : Moves) → IsPrefix less seen → IsPrefix history longer
-    → NotesJuggling config seen history who class moment moves → NotesJuggling config less longer who class moment moves
-juggling_on config less seen history longer who class moment moves begins more noted = record {
+juggling_on : (config : Config) (earlier older newer later : ℕ → List StripeEvent) (less seen history longer : List ClassEvent) (who : Who) (class : ClassNo) (moment : ℕ) (moves : Moves)
+    → ((n : ℕ) → n < config.stripes → IsPrefix (earlier n) (older n)) → ((n : ℕ) → n < config.stripes → IsPrefix (newer n) (later n)) → IsPrefix less seen → IsPrefix history longer
+    → NotesJuggling config older newer seen history who class moment moves → NotesJuggling config earlier later less longer who class moment moves
+juggling_on config earlier older newer later less seen history longer who class moment moves first last begins more noted = record {
   before = noted.before;
   hits = noted.hits;
   few = noted.few;
@@ -114,8 +117,11 @@ juggling_on config less seen history longer who class moment moves begins more n
   behind = noted.behind ++ more.0;
   past = prefix_trans less seen noted.before begins noted.past;
   split = sym more.1 ∙ (ap (λ (h : List ClassEvent). h ++ more.0) noted.split ∙ append_assoc ((noted.before ++ noted.advances) ++ noted.own) noted.behind more.0);
-  answers = noted.answers;
-  juggled = noted.juggled;
+  juggled = (
+    noted.juggled.0,
+    noted.juggled.1,
+    judged_more (IsStateBetween config.stripes older newer) (IsStateBetween config.stripes earlier later) (state_wider config.stripes earlier older newer later first last) noted.juggled.0 noted.juggled.2,
+  );
 }
 
 -- a longer history has no fewer reclaims
@@ -204,9 +210,10 @@ command_cut_on config number less seen history longer classes classes_new who co
   search = search_up_to_on config (visible_row (stripe_with config number noted.older) command moment).need classes classes_new who moment noted.stretch grow noted.search;
 }
 
-juggling_cut_on : (config : Config) (less seen history longer : List ClassEvent) (who : Who) (class : ClassNo) (moment : ℕ) → IsPrefix less seen → IsPrefix history longer
-    → NotesJugglingCut config seen history who class moment → NotesJugglingCut config less longer who class moment
-juggling_cut_on config less seen history longer who class moment begins more noted = record {
+juggling_cut_on : (config : Config) (earlier older newer later : ℕ → List StripeEvent) (less seen history longer : List ClassEvent) (who : Who) (class : ClassNo) (moment : ℕ)
+    → ((n : ℕ) → n < config.stripes → IsPrefix (earlier n) (older n)) → ((n : ℕ) → n < config.stripes → IsPrefix (newer n) (later n)) → IsPrefix less seen → IsPrefix history longer
+    → NotesJugglingCut config older newer seen history who class moment → NotesJugglingCut config earlier later less longer who class moment
+juggling_cut_on config earlier older newer later less seen history longer who class moment first last begins more noted = record {
   before = noted.before;
   past = prefix_trans less seen noted.before begins noted.past;
   first = noted.first;
@@ -215,7 +222,12 @@ juggling_cut_on config less seen history longer who class moment begins more not
   advanced = noted.advanced;
   moved = noted.moved;
   after = noted.after;
-  cut = noted.cut;
+  cut = ⊎_elim (λ none. inl none)
+      (λ broken. inr (
+        broken.0,
+        cut_more (IsStateBetween config.stripes older newer) (IsStateBetween config.stripes earlier later) (state_wider config.stripes earlier older newer later first last)
+            (rounds (opened config class) who moment config) broken.0 noted.advanced noted.after broken.1,
+      )) noted.cut;
   begins = prefix_trans noted.after history longer noted.begins more;
 }
 
@@ -243,7 +255,7 @@ module _ (makes : Who → ((lock place : ℕ) → Event → Type 0) → Type 0) 
       let number = stripe_number config.stripes command in
       (command_on config number _ _ _ _ old.classes new.classes who command moment reply (begins.stripes number placed) (grow.stripes number placed) grow.classes stands.0, stands.1)
   stands_on config less seen old new who moment (Juggles class) (Moved moves) begins grow placed stands =
-      (juggling_on config _ _ _ _ who class moment moves (begins.classes class placed) (grow.classes class placed) stands.0, stands.1)
+      (juggling_on config _ _ _ _ _ _ _ _ who class moment moves begins.stripes grow.stripes (begins.classes class placed) (grow.classes class placed) stands.0, stands.1)
   stands_on config less seen old new who moment (Crawls class) (Counted histogram) begins grow placed stands =
       (crawling_on config _ _ _ _ _ _ _ _ who class moment histogram begins.stripes grow.stripes (begins.classes class placed) (grow.classes class placed) stands.0, stands.1)
   stands_on config less seen old new who moment (Limits class n) Limited begins grow placed stands =
@@ -301,7 +313,7 @@ module _ (makes : Who → ((lock place : ℕ) → Event → Type 0) → Type 0) 
       let number = stripe_number config.stripes command in
       (command_cut_on config number _ _ _ _ old.classes new.classes who command moment (begins.stripes number placed) (grow.stripes number placed) grow.classes left.0, left.1)
   breaks_on config less seen old new who moment (Juggles class) begins grow placed left =
-      (juggling_cut_on config _ _ _ _ who class moment (begins.classes class placed) (grow.classes class placed) left.0, left.1)
+      (juggling_cut_on config _ _ _ _ _ _ _ _ who class moment begins.stripes grow.stripes (begins.classes class placed) (grow.classes class placed) left.0, left.1)
   breaks_on config less seen old new who moment (Crawls class) begins grow placed left =
       (crawling_cut_on config _ _ _ _ _ _ _ _ who class moment begins.stripes grow.stripes (begins.classes class placed) (grow.classes class placed) left.0, left.1)
   breaks_on config less seen old new who moment (Limits class n) begins grow placed left = left

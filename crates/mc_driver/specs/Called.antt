@@ -76,7 +76,7 @@ pub record HasMadeAll (config : Config) (caller : ℕ) (histories : Histories) :
   pub own : AreInTurn caller calls
   pub all : config.max_events ≤ length (turns_for calls begun)
 
--- a caller may have found a full history: one of the store's has fewer than two places left, or the caller made all calls it may
+-- a caller may have found a full history: a stripe's has no place left, a class's fewer than two, or the caller made all calls it may
 abbrev pub HasNoPlace : Config → ℕ → Histories → Type 0
 HasNoPlace config caller histories = HasFull config histories ⊎ HasMadeAll config caller histories
 

@@ -69,8 +69,8 @@ pub record MayCall (config : Config) (pass : PassView) : Type 0 where
   pub some : 0 < config.stripes
   pub turns : length (turns_of pass.calls) ≡ pass.turn
 
--- what a script's contracts see of a caller by its pass: a history is full if the pass saw one with under
--- two places left, or has all calls that it may
+-- what a script's contracts see of a caller by its pass: a history is full if the pass saw one with too few places left, or has all
+-- calls that it may
 abbrev pub view_of : Config → PassView → CallsView
 view_of config pass = record {
   caller = pass.caller;

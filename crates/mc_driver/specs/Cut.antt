@@ -12,7 +12,7 @@ use Rattle.mc_stripe.specs.Plan.{visible_row}
 use Rattle.mc_pull.specs.Rounds.{rounds}
 use Rattle.mc_crawl.specs.Snapshot.{links_of}
 use Rattle.mc_store.specs.{Accounts.Stretch, Callers.HasNoneOf, Calls.IsJuggleCut, Commands.LeadsUp, Crawls.AreCountedFirst, Crawls.AreLinksCounted}
-use Rattle.mc_store.specs.{Hits.AreAdvanced, Locked.setting_of, Made.HasNoneMadeBy, Searches.IsSearchBroken, Sides.class_told}
+use Rattle.mc_store.specs.{Hits.AreAdvanced, Reached.IsStateBetween, Locked.setting_of, Made.HasNoneMadeBy, Searches.IsSearchBroken, Sides.class_told}
 use Rattle.mc_driver.specs.{Noted.stripe_with, Searched.NotesSearchFor}
 
 -- a class's history has, in this stretch, a search for a chunk by this call that a fault broke off
@@ -45,8 +45,10 @@ pub record NotesCommandCut (config : Config) (number : ℕ) (seen history : List
   pub search : NotesSearchUpTo config (visible_row (stripe_with config number older) command moment).need classes who moment stretch
 
 -- a class's history has the beginning of a call's juggling after what was seen of it and older events, none of them of this call: the
--- moves of at most 256 hits, and then nothing, or surveys and walks that a fault broke off
-pub record NotesJugglingCut (config : Config) (seen history : List ClassEvent) (who : Who) (class : ClassNo) (moment : ℕ) : Type 0 where
+-- moves of at most 256 hits, and then nothing, or surveys and walks that a fault broke off. A stripe that these reached was as it was
+-- after `older`, which was seen of it, and by `newer`
+pub record NotesJugglingCut (config : Config) (older newer : ℕ → List StripeEvent) (seen history : List ClassEvent) (who : Who) (class : ClassNo) (moment : ℕ)
+    : Type 0 where
   pub before : List ClassEvent
   pub past : IsPrefix seen before
   pub first : HasNoneMadeBy who before
@@ -55,7 +57,8 @@ pub record NotesJugglingCut (config : Config) (seen history : List ClassEvent) (
   pub advanced : List ClassEvent
   pub moved : AreAdvanced who moment hits before advanced
   pub after : List ClassEvent
-  pub cut : (after ≡ advanced) ⊎ ((fault : Fault) × IsJuggleCut (rounds (opened config class) who moment config) fault advanced after)
+  pub cut : (after ≡ advanced) ⊎ ((fault : Fault) × IsJuggleCut (IsStateBetween config.stripes older newer) (rounds (opened config class) who moment config)
+      fault advanced after)
   pub begins : IsPrefix after history
 
 -- a class's history has the beginning of a call's crawl: none or not all of the entries at one point after what was seen, counted one

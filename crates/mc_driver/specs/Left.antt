@@ -27,8 +27,8 @@ module _ {E : Type 0} (gave : E → E → List ℕ → Type 0) (at_end : E → T
 
   -- what holds after a run of scripts, with upkeep at these moments, on a store of this configuration. Maintainer and crawler made
   -- the calls at these moments, or by their outcomes a beginning of them, in turn, and no others. Without moments both are done.
-  -- After `HistoryFull` a history has fewer than two places left, or the caller has made `max_events` calls. If a caller is done, each
-  -- of its events has its call, at the same moment. Nobody else made an event, and the store is sound.
+  -- After `HistoryFull` a stripe's history has no place left, a class's has fewer than two, or the caller has made `max_events` calls. If
+  -- a caller is done, each of its events has its call, at the same moment. Nobody else made an event, and the store is sound.
   pub record IsRunDone (config : Config) (moments : List ℕ) (scripts ends : List E) (ended : List Outcome) (final : FinalView) : Type 0 where
     pub each : (i : ℕ) (d : E) (outcome : Outcome) → i < length scripts
         → IsScriptLeft config (histories_left final) i (slice_index_or scripts i d) (slice_index_or ends i d) (slice_index_or ended i outcome)

@@ -8,8 +8,7 @@ use Rattle.mc_item.specs.declared.{counts.Histogram.Histogram, event.Event.Event
 use Rattle.mc_item.specs.declared.stripe_event.StripeEvent.TheVariants as events
 use Rattle.mc_hits.specs.declared.rule.Hit.{Hit}
 use Rattle.mc_proto.specs.Answers.{Replied}
-use Rattle.mc_pull.specs.{Juggle.IsJuggle, Rounds.rounds}
-use Rattle.mc_pull.specs.declared.looking.Answer.{Answer as GateAnswer}
+use Rattle.mc_pull.specs.Rounds.{rounds}
 use Rattle.mc_script.specs.Exchanges.{Asks, Exchange}
 use Rattle.mc_segment.specs.{ClassCalls.limited_event, ClassState.opened}
 use Rattle.mc_rule.specs.Lists.{count_of, lists_of}
@@ -19,7 +18,7 @@ use Rattle.mc_item.specs.Counts.{no_counts}
 use Rattle.mc_item.specs.declared.reply.Room.TheVariants as rooms
 use Rattle.mc_store.specs.{Accounts.IsOfCommand, Accounts.IsWithin, Accounts.Stretch, Callers.HasNoneOf, Commands.LeadsUp, Crawls.AreLinksCounted}
 use Rattle.mc_store.specs.{Crawls.HasReclaims, Earned.IsLastResort, Headline.answered_did, Hits.AreAdvanced, Locked.setting_of}
-use Rattle.mc_store.specs.{Made.HasNoneMadeBy, Sides.class_told}
+use Rattle.mc_store.specs.{Calls.IsJuggledWith, Made.HasNoneMadeBy, Reached.IsStateBetween, Sides.class_told}
 use Rattle.mc_stripe.specs.{Plan.visible_row, StripeState.Stripe, StripeState.stripe}
 use Rattle.mc_driver.specs.Searched.{NotesSearchFor}
 
@@ -72,8 +71,9 @@ pub record NotesCommand (config : Config) (number : ℕ) (seen history : List St
   pub search : NotesSearchFor config (visible_row (stripe_with config number older) command moment).need classes who moment stretch
 
 -- a class's history has a call's juggling with these moves, after what was seen of it, in one unbroken stretch: the moves of at most
--- 256 hits, then surveys and walks
-pub record NotesJuggling (config : Config) (seen history : List ClassEvent) (who : Who) (class : ClassNo) (moment : ℕ) (moves : Moves) : Type 0 where
+-- 256 hits, then surveys and walks. A stripe that these reached was as it was after `older`, which was seen of it, and by `newer`
+pub record NotesJuggling (config : Config) (older newer : ℕ → List StripeEvent) (seen history : List ClassEvent) (who : Who) (class : ClassNo) (moment : ℕ)
+    (moves : Moves) : Type 0 where
   pub before : List ClassEvent
   pub hits : List Hit
   pub few : length hits ≤ 256
@@ -83,8 +83,8 @@ pub record NotesJuggling (config : Config) (seen history : List ClassEvent) (who
   pub behind : List ClassEvent
   pub past : IsPrefix seen before
   pub split : history ≡ ((before ++ advances) ++ own) ++ behind
-  pub answers : List GateAnswer
-  pub juggled : IsJuggle (rounds (opened config class) who moment config) (before ++ advances) answers ((before ++ advances) ++ own) moves
+  pub juggled : IsJuggledWith (IsStateBetween config.stripes older newer) (rounds (opened config class) who moment config) (before ++ advances)
+      ((before ++ advances) ++ own) moves
 
 -- a class's history has a call's crawl: the entries at one point after what was seen, counted one by one, each in its stretch of the
 -- history, give this histogram. Each was counted by the item that its stripe had after `older`, which was seen of it, and by `newer`. The

@@ -84,11 +84,11 @@ pub record IsStore (config : Config) (final : FinalView) : Type 0 where
   pub sound : IsSoundStore (setting_of config) (stripe_histories final.stripes) (class_histories final.classes)
   pub entries : AreExactlyEntries (setting_of config) (stripe_histories final.stripes) (class_histories final.classes)
 
--- a stripe of a configuration has fewer than two places left in its history
+-- a stripe of a configuration has no place left in its history
 pub record HasFullStripe (config : Config) (histories : Histories) : Type 0 where
   pub number : ℕ
   pub below : number < config.stripes
-  pub full : config.max_events < length (histories.stripes number) + 2
+  pub full : config.max_events ≤ length (histories.stripes number)
 
 -- a slab class of a configuration has fewer than two places left in its history
 pub record HasFullClass (config : Config) (histories : Histories) : Type 0 where
@@ -97,6 +97,6 @@ pub record HasFullClass (config : Config) (histories : Histories) : Type 0 where
   pub last : number.0 ≤ length config.sizes
   pub full : config.max_events < length (histories.classes number) + 2
 
--- a stripe or a slab class of a configuration has fewer than two places left in its history
+-- a stripe's history has no place left, or a slab class's fewer than two
 abbrev pub HasFull : Config → Histories → Type 0
 HasFull config histories = HasFullStripe config histories ⊎ HasFullClass config histories

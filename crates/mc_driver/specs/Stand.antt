@@ -65,7 +65,7 @@ module _ (makes : Who → ((lock place : ℕ) → Event → Type 0) → Type 0) 
       (noted : NotesCommand config number (seen.stripes number) (histories.stripes number) histories.classes who command moment reply)
       × makes who (IsOfPart config number command moment noted.older (length (noted.older ++ noted.made) + 1) noted.stretch)
   StandsAs config seen histories who moment (Juggles class) (Moved moves) =
-      (noted : NotesJuggling config (seen.classes class) (histories.classes class) who class moment moves)
+      (noted : NotesJuggling config seen.stripes histories.stripes (seen.classes class) (histories.classes class) who class moment moves)
       × makes who (IsOfStretch config class (record { from = length noted.before; until = length ((noted.before ++ noted.advances) ++ noted.own) }))
   StandsAs config seen histories who moment (Crawls class) (Counted histogram) =
       (noted : NotesCrawling config seen.stripes histories.stripes (seen.classes class) (histories.classes class) who class moment histogram)
@@ -95,7 +95,7 @@ module _ (makes : Who → ((lock place : ℕ) → Event → Type 0) → Type 0) 
       (noted : NotesCommandCut config number (seen.stripes number) (histories.stripes number) histories.classes who command moment)
       × makes who (IsOfPart config number command moment noted.older (length (noted.older ++ noted.made)) noted.stretch)
   BreaksOffAs config seen histories who moment (Juggles class) =
-      (noted : NotesJugglingCut config (seen.classes class) (histories.classes class) who class moment)
+      (noted : NotesJugglingCut config seen.stripes histories.stripes (seen.classes class) (histories.classes class) who class moment)
       × makes who (IsOfStretch config class (record { from = 0; until = length noted.after }))
   BreaksOffAs config seen histories who moment (Crawls class) =
       (noted : NotesCrawlingCut config seen.stripes histories.stripes (seen.classes class) (histories.classes class) who class moment)

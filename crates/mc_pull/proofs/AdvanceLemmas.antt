@@ -1,5 +1,5 @@
 -- A hit is taken to a class: what its look tells, and what the class's history has more.
-use Rattle.std.proofs.Common.{◌≡◌, ◌≢◌, ℕ, Bool, true, false, if◌then◌else◌, List, [], ◌∷◌, ◌++◌, Option, Some, None, refl, sym, ap, ◌∙◌, subst}
+use Rattle.std.proofs.Common.{◌≡◌, ◌≢◌, ℕ, length, Bool, true, false, if◌then◌else◌, List, [], ◌∷◌, ◌++◌, Option, Some, None, refl, sym, ap, ◌∙◌, subst}
 use Rattle.std.specs.Prelude.{◌&&◌, not, IsSome}
 use Rattle.std.proofs.lemmas.List.{append-nil}
 use Rattle.mc_item.specs.declared.{config.Config.Config, item.Item.Item, item.StripeNo.StripeNo, item.Who.Who, lists.Entry.Entry, lists.Seg.Seg}
@@ -12,7 +12,8 @@ use Rattle.mc_pull.specs.declared.{judge.Done.Done, judge.Judge.TheVariants.Hit,
 use Rattle.mc_pull.specs.declared.judge.Done.TheVariants as done
 use Rattle.mc_pull.specs.Advance.{IsAdvance, IsAdvanceOf, MovesIf, is_to_warm, is_to_warm_if}
 use Rattle.mc_pull.specs.Judgement.{done_by, done_if, done_with, has_link}
-use Rattle.mc_pull.specs.{Looks.IsJudgedIf, Looks.answer_by, Looks.events_if, Question.Question, Question.question, Settled.done_class_events, Settled.class_with}
+use Rattle.mc_pull.specs.{Looks.IsJudgedIf, Looks.answer_by, Looks.done_in, Looks.events_if, Looks.judged_by, Question.Question, Question.question, Settled.done_class_events}
+use Rattle.mc_pull.specs.Settled.{class_with}
 
 some_same : {A : Type 0} (a b : A) → Some a ≡ Some b → a ≡ b
 some_same a b h = cc
@@ -29,9 +30,9 @@ not_in_cold l n s apart is law = is_none (find n l.cold) (λ there. apart (some_
 -- ---- an entry that was looked at
 pub advanced : (q : Question) (config : Config) (c c_new : ClassView) (xs ys : List Answer) (e : Entry) (stripe : StripeNo) (j : Option Judged) → find q.number (lists_of c.history).cold ≡ Some e
     → stripe ≡ stripe_of e.key config.stripes → ys ≡ xs ++ answer_by stripe j ∷ [] → c_new ≡ class_with c (events_if c q j) c_new.room → IsJudgedIf config stripe c q j
-    → IsAdvance q config c c_new xs ys (is_to_warm_if j)
+    → IsAdvance q config c c_new xs ys (is_to_warm_if (done_in j))
 advanced q config c c_new xs ys e stripe j is place answers class told =
-    subst (IsAdvanceOf q config c c_new xs ys (is_to_warm_if j)) (sym is)
+    subst (IsAdvanceOf q config c c_new xs ys (is_to_warm_if (done_in j))) (sym is)
     record {
       judged = j;
       answers = subst (λ (s : StripeNo). ys ≡ xs ++ answer_by s j ∷ []) place answers;
@@ -62,13 +63,13 @@ module _ (c : ClassView) (who : Who) (number moment : ℕ) where
   by_entry at cache None = append-nil c.history
   by_entry at cache (Some e) = by_item at c.rule (lists_of c.history) e (cache.items e.key)
 
-  by_answer : (config : Config) (stripe : StripeNo) (j : Option Judged) → IsJudgedIf config stripe c hit j → MovesIf hit c.history (c.history ++ events_if c hit j) (is_to_warm_if j)
+  by_answer : (config : Config) (stripe : StripeNo) (j : Option Judged) → IsJudgedIf config stripe c hit j → MovesIf hit c.history (c.history ++ events_if c hit j) (is_to_warm_if (done_in j))
   by_answer config stripe None told = append-nil c.history
   by_answer config stripe (Some j) told =
-      subst (MovesBy j.at) (sym told.done_is) (by_entry j.at (cache_now told.stripe) (entry_of number (lists_of c.history)))
+      let at = length (judged_by j).history in subst (MovesBy at) (sym told.done_is) (by_entry at (cache_now (judged_by j)) (entry_of number (lists_of c.history)))
 
   -- the class has the move just where the answer says that the entry went to WARM
   pub moves_by : (config : Config) (stripe : StripeNo) (j : Option Judged) (c_new : ClassView) → c_new ≡ class_with c (events_if c hit j) c_new.room → IsJudgedIf config stripe c hit j
-      → MovesIf hit c.history c_new.history (is_to_warm_if j)
+      → MovesIf hit c.history c_new.history (is_to_warm_if (done_in j))
   moves_by config stripe j c_new class told =
-      subst (λ h. MovesIf hit c.history h (is_to_warm_if j)) (sym (ap (λ (v : ClassView). v.history) class)) (by_answer config stripe j told)
+      subst (λ h. MovesIf hit c.history h (is_to_warm_if (done_in j))) (sym (ap (λ (v : ClassView). v.history) class)) (by_answer config stripe j told)

@@ -1,5 +1,5 @@
 -- A walk by a survey, a hit and a burial make no event that looks for a chunk.
-use Rattle.std.proofs.Common.{◌≡◌, ◌++◌, ◌∷◌, [], ℕ, List, Bool, true, false, Option, Some, None, Result, Ok, Err, refl, sym, ap, append_assoc, ◌∙◌, subst}
+use Rattle.std.proofs.Common.{length, ◌≡◌, ◌++◌, ◌∷◌, [], ℕ, List, Bool, true, false, Option, Some, None, Result, Ok, Err, refl, sym, ap, append_assoc, ◌∙◌, subst}
 use Rattle.std.specs.Prelude.{◌&&◌, not, if◌then◌else◌, IsSomeAnd, OnErr, OnOk}
 use Rattle.std.proofs.lemmas.List.{append-nil}
 use Rattle.mc_item.specs.{Cache.Cache, Item.is_dead}
@@ -15,7 +15,7 @@ use Rattle.mc_pull.specs.declared.judge.Judge.TheVariants.{Walk, Dead, Hit}
 use Rattle.mc_pull.specs.declared.judge.Mode.TheVariants.{Plain, Evict, Force}
 use Rattle.mc_pull.specs.declared.judge.Done.TheVariants as done
 use Rattle.mc_pull.specs.Growth.{GainsEvents, GainsFor, NoneLooks, looks_for_chunk}
-use Rattle.mc_pull.specs.{Judgement.done_by, Judgement.done_of, Judgement.done_with, Judgement.has_link, Looks.IsJudgedIf, Looks.events_if}
+use Rattle.mc_pull.specs.{Judgement.done_by, Judgement.done_of, Judgement.done_with, Judgement.has_link, Looks.IsJudgedIf, Looks.events_if, Looks.judged_by}
 use Rattle.mc_pull.specs.{Outcome.is_due, Outcome.is_over, Question.Question, Settled.class_with, Settled.cold_events, Settled.done_class_events}
 use Rattle.mc_pull.specs.Settled.{warm_events}
 use Rattle.mc_pull.specs.Walk.{Pull, Way, class_at, events_at, question_at}
@@ -126,7 +126,7 @@ module _ (c : ClassView) (q : Question) where
   -- nor does an answer
   pub none_judged : (config : Config) (number : StripeNo) (j : Option Judged) → judge_looks q.judge ≡ false → IsJudgedIf config number c q j → NoneLooks (events_if c q j)
   none_judged config number None off told = tt
-  none_judged config number (Some j) off told = none_done (cache_now told.stripe) j.at j.done off told.done_is
+  none_judged config number (Some j) off told = none_done (cache_now (judged_by j)) (length (judged_by j).history) j.done off told.done_is
 
   -- a class behind an answer
   pub gains_judged : (config : Config) (number : StripeNo) (j : Option Judged) (c_new : ClassView) → judge_looks q.judge ≡ false → IsJudgedIf config number c q j

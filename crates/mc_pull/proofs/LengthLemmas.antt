@@ -10,7 +10,7 @@ use Rattle.mc_pull.specs.declared.{judge.Done.Done, judge.Judge.Judge, looking.J
 use Rattle.mc_pull.specs.declared.judge.Judge.TheVariants.{Walk, Dead, Hit}
 use Rattle.mc_pull.specs.declared.{pulled.Pulled.Pulled}
 use Rattle.mc_pull.specs.declared.judge.Done.TheVariants as done
-use Rattle.mc_pull.specs.{Pulled.counts_after, Pulled.counts_if, Question.Question, Settled.done_class_events, Settled.warm_events, Settled.cold_events}
+use Rattle.mc_pull.specs.{Looks.done_in, Looks.judged_by, Pulled.counts_after, Pulled.counts_if, Question.Question, Settled.done_class_events, Settled.warm_events, Settled.cold_events}
 use Rattle.mc_pull.specs.Walk.{Pull, Way, class_at, question_at, events_at}
 
 one_more : (n : ℕ) → n ≤ suc n
@@ -128,8 +128,8 @@ alone_passes (done.Alive expiry) p = omega arith
 alone_passes done.Stranger p = omega arith
 
 -- an answer passes one entry and makes no event, or makes at most one
-pub answer_passes : (p : Pull) (w : Way) (o : Option Entry) (j : Option Judged) → (counts_if j w.pulled).passed + length (events_at p w o j) ≤ w.pulled.passed + 1
+pub answer_passes : (p : Pull) (w : Way) (o : Option Entry) (j : Option Judged) → (counts_if (done_in j) w.pulled).passed + length (events_at p w o j) ≤ w.pulled.passed + 1
 answer_passes p w None None = omega arith
 answer_passes p w (Some e) None = omega arith
 answer_passes p w None (Some j) = omega (arith, alone_passes j.done w.pulled)
-answer_passes p w (Some e) (Some j) = done_passes (class_at p.class w.history) (question_at p w e) j.at j.done w.pulled
+answer_passes p w (Some e) (Some j) = done_passes (class_at p.class w.history) (question_at p w e) (length (judged_by j).history) j.done w.pulled

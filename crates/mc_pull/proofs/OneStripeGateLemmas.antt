@@ -73,10 +73,10 @@ module _ (c c_new : ClassView) (s s_new : Stripe) (q : Question) (site : KeepsSi
     others = agreement.others;
   }
 
-  pub settle_walked : (result : Result Done Fault) → IfOk result (λ made. IsSettled c c_new s s_new q made)
+  pub settle_walked : {T : Type 0} (made : T → Done) (result : Result T Fault) → IfOk result (λ x. IsSettled c c_new s s_new q (made x))
       → OnErr result ((c_new ≡ with_room c c_new.room) × (s_new.history ≡ s.history)) → Walked (walker_of c q.who q.moment) s c.history s_new c_new.history
-  settle_walked (Ok made) settled err =
-      walked_with (done_stripe_events c q made) (made_by c q (entry_of q.number (lists_of c.history)) made) settled.stripe
+  settle_walked made (Ok x) settled err =
+      walked_with (done_stripe_events c q (made x)) (made_by c q (entry_of q.number (lists_of c.history)) (made x)) settled.stripe
       (ap (λ (v : ClassView). v.number) settled.class) (ap (λ (v : ClassView). v.rule) settled.class)
-  settle_walked (Err fault) settled err =
+  settle_walked made (Err fault) settled err =
       walked_with [] tt (err.1 ∙ sym (append-nil s.history)) (ap (λ (v : ClassView). v.number) err.0) (ap (λ (v : ClassView). v.rule) err.0)

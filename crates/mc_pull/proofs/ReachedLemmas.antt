@@ -4,7 +4,7 @@ use Rattle.mc_item.specs.declared.{config.Config.Config, item.StripeNo.StripeNo}
 use Rattle.mc_segment.specs.ClassState.{ClassView}
 use Rattle.mc_stripe.specs.StripeState.{Stripe}
 use Rattle.mc_pull.specs.declared.looking.Judged.{Judged}
-use Rattle.mc_pull.specs.{Looks.IsJudgedIf, Looks.IsReachedIf, Question.Question}
+use Rattle.mc_pull.specs.{Looks.IsJudgedIf, Looks.IsReachedIf, Looks.judged_by, Question.Question}
 
 pub judged_of : (R : Stripe → Type 0) (config : Config) (number : StripeNo) (c : ClassView) (q : Question) (j : Option Judged) → IsReachedIf R config number c q j → IsJudgedIf config number c q j
 judged_of R config number c q None reached = tt
@@ -14,4 +14,4 @@ judged_of R config number c q (Some j) reached = reached.0
 pub reached_more : (R Q : Stripe → Type 0) (config : Config) (number : StripeNo) (c : ClassView) (q : Question) (j : Option Judged) → ((s : Stripe) → R s → Q s) → IsReachedIf R config number c q j
     → IsReachedIf Q config number c q j
 reached_more R Q config number c q None more reached = tt
-reached_more R Q config number c q (Some j) more reached = (reached.0, more reached.0.stripe reached.1)
+reached_more R Q config number c q (Some j) more reached = (reached.0, more (judged_by j) reached.1)

@@ -12,8 +12,8 @@ use Rattle.mc_stripe.specs.StripeState.{cache_now}
 use Rattle.mc_pull.specs.declared.{judge.Done.Done, judge.Judge.TheVariants.Walk, judge.Mode.Mode, judge.Mode.TheVariants.Evict, judge.Mode.TheVariants.Force}
 use Rattle.mc_pull.specs.declared.{looking.Answer.Answer, looking.Judged.Judged, pulled.Pulled.Pulled}
 use Rattle.mc_pull.specs.declared.judge.Done.TheVariants as done
-use Rattle.mc_pull.specs.{Judgement.done_by, Judgement.done_if, Judgement.done_of, Judgement.done_with, Judgement.has_link, Looks.IsJudgedIf, Outcome.is_due}
-use Rattle.mc_pull.specs.{Outcome.outcome_of, Pulled.counts_if, Pulled.did_something, Pulled.is_end_if, Question.question, Settled.done_class_events, Tried.AreHad}
+use Rattle.mc_pull.specs.{Judgement.done_by, Judgement.done_if, Judgement.done_of, Judgement.done_with, Judgement.has_link, Looks.IsJudgedIf, Looks.done_in, Looks.judged_by, Outcome.is_due}
+use Rattle.mc_pull.specs.{Outcome.is_end, Outcome.outcome_of, Pulled.counts_after, Pulled.counts_if, Pulled.did_something, Pulled.is_end_if, Question.question, Settled.done_class_events, Tried.AreHad}
 use Rattle.mc_pull.specs.{Tried.AreTries, Tried.IsNoneNear, Tried.IsTried}
 use Rattle.mc_pull.specs.Rounds.{ForcesHot, IsRoom, IsRoomRound, Repeats, Rounds, Walks}
 use Rattle.mc_pull.specs.Walk.{IsAlong, IsAnswer, Pull, Way, class_at, events_at, is_going, is_wanted, next_entry, numbers_passed, pull, question_at, run, start_of, step}
@@ -71,7 +71,7 @@ tried_same who a b c first second same = by first.0 first.1
 look_tries : (p : Pull) (w : Way) (o : Option Entry) (j : Option Judged) → AreTries p.who (events_at p w o j)
 look_tries p w None j = tt
 look_tries p w (Some e) None = tt
-look_tries p w (Some e) (Some j) = done_tries (class_at p.class w.history) p.who e.number p.seg p.mode (numbers_passed p w) p.moment j.at j.done
+look_tries p w (Some e) (Some j) = done_tries (class_at p.class w.history) p.who e.number p.seg p.mode (numbers_passed p w) p.moment (length (judged_by j).history) j.done
 
 run_tried : (p : Pull) (w : Way) (xs : List Answer) → Tried p.who w.history (run p w xs).history
 run_tried p w [] = tried_none p.who w.history
@@ -149,8 +149,8 @@ module _ (s : Seg) (mode : Mode) (wanting : IsWanting s mode) where
 
 -- ---- a look that left no event passed its entry
 pub record HasPassed (p : Pull) (w : Way) (a : Answer) (number : StripeNo) : Type 0 where
-  pub goes_on : is_end_if a.judged ≡ false
-  pub counts : counts_if a.judged w.pulled ≡ record w.pulled { passed = w.pulled.passed + 1 }
+  pub goes_on : is_end_if (done_in a.judged) ≡ false
+  pub counts : counts_if (done_in a.judged) w.pulled ≡ record w.pulled { passed = w.pulled.passed + 1 }
   pub apart : (e : Entry) → next_entry p w ≡ Some e → stripe_of e.key p.config.stripes ≢ number
 
 none_some : {A : Type 0} {x : A} → None ≡ Some x → ⊥
@@ -170,22 +170,22 @@ module _ (p : Pull) (w : Way) (number : StripeNo) (wanting : IsWanting p.seg p.m
       let one = same_some e0 e (sym is ∙ there) in
       not (knows (of ∙ (ap (λ (x : Entry). stripe_of x.key p.config.stripes) one ∙ same)))
 
-  stranger : (stripe : StripeNo) (e0 : Entry) (at : ℕ) (d : Done) → next_entry p w ≡ Some e0 → stripe ≡ stripe_of e0.key p.config.stripes → Knows stripe (Some (record { done = d; at = at }))
-      → d ≡ done.Stranger → HasPassed p w (record { stripe = stripe; judged = Some (record { done = d; at = at }) }) number
-  stranger stripe e0 at d is of knows so = record {
-    goes_on = ap (λ (x : Done). is_end_if (Some (record { done = x; at = at }))) so;
-    counts = ap (λ (x : Done). counts_if (Some (record { done = x; at = at })) w.pulled) so;
-    apart = apart_by stripe e0 (next_entry p w) (Some (record { done = d; at = at })) is of knows (λ known. known so);
+  stranger : (stripe : StripeNo) (e0 : Entry) (j : Judged) → next_entry p w ≡ Some e0 → stripe ≡ stripe_of e0.key p.config.stripes → Knows stripe (Some j)
+      → j.done ≡ done.Stranger → HasPassed p w (record { stripe = stripe; judged = Some j }) number
+  stranger stripe e0 j is of knows so = record {
+    goes_on = ap is_end so;
+    counts = ap (λ (x : Done). counts_after x w.pulled) so;
+    apart = apart_by stripe e0 (next_entry p w) (Some j) is of knows (λ known. known so);
   }
 
   by_judged : (stripe : StripeNo) (e0 : Entry) (j : Option Judged) → next_entry p w ≡ Some e0 → stripe ≡ stripe_of e0.key p.config.stripes → IsJudgedIf p.config stripe (class_at p.class w.history) (question_at p w e0) j
       → Knows stripe j → length (events_at p w (Some e0) j) ≡ 0 → HasPassed p w (record { stripe = stripe; judged = j }) number
   by_judged stripe e0 None is of judged knows none = record { goes_on = refl; counts = refl; apart = apart_by stripe e0 (next_entry p w) None is of knows (λ known. known) }
   by_judged stripe e0 (Some j) is of judged knows none =
-      let so = subst IsDoneSo (sym judged.done_is) (done_so p.seg p.mode wanting (class_at p.class w.history) (cache_now judged.stripe) p.who e0.number (numbers_passed p w) p.moment) in
+      let so = subst IsDoneSo (sym judged.done_is) (done_so p.seg p.mode wanting (class_at p.class w.history) (cache_now (judged_by j)) p.who e0.number (numbers_passed p w) p.moment) in
       elim so [
-        | inl made ↦ absurd (omega (arith, none, event_there (class_at p.class w.history) p.who e0.number p.seg p.mode (numbers_passed p w) p.moment j.at j.done made))
-        | inr is_stranger ↦ stranger stripe e0 j.at j.done is of knows is_stranger
+        | inl made ↦ absurd (omega (arith, none, event_there (class_at p.class w.history) p.who e0.number p.seg p.mode (numbers_passed p w) p.moment (length (judged_by j).history) j.done made))
+        | inr is_stranger ↦ stranger stripe e0 j is of knows is_stranger
       ]
 
   by_entry : (stripe : StripeNo) (j : Option Judged) (o : Option Entry) → next_entry p w ≡ o

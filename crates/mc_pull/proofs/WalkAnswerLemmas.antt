@@ -5,7 +5,7 @@ use Rattle.mc_rule.specs.Lists.{lists_of, list_of}
 use Rattle.mc_segment.specs.ClassState.{ClassView}
 use Rattle.mc_pull.specs.declared.{judge.Done.Done, judge.Mode.Mode, looking.Answer.Answer, looking.Judged.Judged, pulled.Pulled.Pulled}
 use Rattle.mc_pull.specs.declared.judge.Done.TheVariants as done
-use Rattle.mc_pull.specs.{Growth.GainsFor, Growth.looks_for_chunk, Pulled.sum_of, Pulled.counts_after, Pulled.counts_if, Pulled.is_end_if}
+use Rattle.mc_pull.specs.{Growth.GainsFor, Growth.looks_for_chunk, Looks.done_in, Pulled.sum_of, Pulled.counts_after, Pulled.counts_if, Pulled.is_end_if}
 use Rattle.mc_pull.specs.Walk.{Pull, pull, Way, way, next_entry, events_at, is_going, step, run, IsAnswer, IsAlong, start_of, IsWalk}
 use Rattle.mc_pull.proofs.{ChunkEventLemmas.gains_both, ChunkEventLemmas.none_answered, LengthLemmas.few_taken, LengthLemmas.answer_passes}
 
@@ -56,9 +56,9 @@ counts_sum done.Stayed p = omega arith
 counts_sum (done.Alive expiry) p = omega arith
 counts_sum done.Stranger p = omega arith
 
-pub counts_if-sum : (o : Option Judged) (p : Pulled) → sum_of (counts_if o p) ≤ sum_of p + 1
+pub counts_if-sum : (o : Option Done) (p : Pulled) → sum_of (counts_if o p) ≤ sum_of p + 1
 counts_if-sum None p = omega arith
-counts_if-sum (Some j) p = counts_sum j.done p
+counts_if-sum (Some made) p = counts_sum made p
 
 -- ---- an answer more
 -- an answer on the class as it is now is one on the class as it was at the start
@@ -84,7 +84,7 @@ module _ {c now after : ClassView} {old new later : List Answer} {s : Seg} {mode
     (is : later ≡ new ++ a ∷ [])
     (made : after.history ≡ (step (pull now s mode who moment config) (way now.history left pulled false) a).history)
     (same : after ≡ record now { history = after.history; room = after.room })
-    (count : next ≡ counts_if a.judged pulled) where
+    (count : next ≡ counts_if (done_in a.judged) pulled) where
   abbrev walk : Pull
   walk = pull c s mode who moment config
 
@@ -104,11 +104,11 @@ module _ {c now after : ClassView} {old new later : List Answer} {s : Seg} {mode
       ∙ ap (λ (es : List ClassEvent). now.history ++ es)
       (events_at-start c now.history now.room s mode who moment config before (next_entry walk before) a.judged))
 
-  step_is : step walk before a ≡ way after.history (left - 1) next (is_end_if a.judged)
-  step_is = ap (λ (h : List ClassEvent). way h (left - 1) (counts_if a.judged pulled) (is_end_if a.judged)) (sym made_is)
-      ∙ ap (λ (p : Pulled). way after.history (left - 1) p (is_end_if a.judged)) (sym count)
+  step_is : step walk before a ≡ way after.history (left - 1) next (is_end_if (done_in a.judged))
+  step_is = ap (λ (h : List ClassEvent). way h (left - 1) (counts_if (done_in a.judged) pulled) (is_end_if (done_in a.judged))) (sym made_is)
+      ∙ ap (λ (p : Pulled). way after.history (left - 1) p (is_end_if (done_in a.judged))) (sym count)
 
-  pub looked_way : (stopped : Bool) → is_end_if a.judged ≡ stopped → OnWay walk old later (way after.history (left - 1) next stopped)
+  pub looked_way : (stopped : Bool) → is_end_if (done_in a.judged) ≡ stopped → OnWay walk old later (way after.history (left - 1) next stopped)
   looked_way stopped stop =
       answered walk old new later before (way after.history (left - 1) next stopped) a on.on asked_first is
       (step_is ∙ ap (λ (b : Bool). way after.history (left - 1) next b) stop)
@@ -119,11 +119,11 @@ module _ {c now after : ClassView} {old new later : List Answer} {s : Seg} {mode
     none = λ no. none_answered walk before a (next_entry walk before) no asked_first.asks;
   }
 
-  pub looked_on : 0 < left → is_end_if a.judged ≡ false → OnLooks c after old later s mode who moment config (left - 1) next
+  pub looked_on : 0 < left → is_end_if (done_in a.judged) ≡ false → OnLooks c after old later s mode who moment config (left - 1) next
   looked_on some stop = record {
     on = looked_way false stop;
     gains = gains_both (looks_for_chunk mode) c now after on.gains looked_more;
-    few = omega (arith, on.few, counts_if-sum a.judged pulled, ap sum_of count, some);
+    few = omega (arith, on.few, counts_if-sum (done_in a.judged) pulled, ap sum_of count, some);
     enough = omega (
       arith,
       on.enough,
@@ -136,5 +136,5 @@ module _ {c now after : ClassView} {old new later : List Answer} {s : Seg} {mode
   }
 
   -- the walk ends where it stops
-  pub looked_whole : is_end_if a.judged ≡ true → (xs : List Answer) × (later ≡ old ++ xs) × IsWalk walk xs after.history next
+  pub looked_whole : is_end_if (done_in a.judged) ≡ true → (xs : List Answer) × (later ≡ old ++ xs) × IsWalk walk xs after.history next
   looked_whole stop = whole walk old later (way after.history (left - 1) next true) (looked_way true stop) refl

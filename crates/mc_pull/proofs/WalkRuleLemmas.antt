@@ -10,7 +10,7 @@ use Rattle.mc_rule.specs.{Lists.HasFree, Lists.IsFull, Lists.lists_of, Lists.lis
 use Rattle.mc_pull.specs.declared.{judge.Done.Done, judge.Judge.TheVariants.Walk, judge.Mode.Mode, judge.Mode.TheVariants.Plain, judge.Mode.TheVariants.Evict}
 use Rattle.mc_pull.specs.declared.{judge.Mode.TheVariants.Force, looking.Answer.Answer, looking.Judged.Judged, pulled.Pulled.Pulled}
 use Rattle.mc_pull.specs.declared.judge.Done.TheVariants as done
-use Rattle.mc_pull.specs.{Growth.looks_for_chunk, Looks.IsJudgedIf, Looks.events_if, Pulled.counts_after, Pulled.counts_if, Pulled.is_end_if, Question.question}
+use Rattle.mc_pull.specs.{Growth.looks_for_chunk, Looks.IsJudgedIf, Looks.done_in, Looks.events_if, Pulled.counts_after, Pulled.counts_if, Pulled.is_end_if, Question.question}
 use Rattle.mc_pull.specs.Walk.{IsAlong, IsAnswer, IsWalk, Pull, Way, class_at, events_at, is_going, is_wanted, next_entry, numbers_passed, question_at, run, start_of, step}
 use Rattle.mc_pull.specs.WalkRule.{HasChunk, HasEnded, IsEndedBy, IsNextLook, entries_at_start, history_after, is_passed, is_stranger}
 use Rattle.mc_pull.proofs.WalkAnswerLemmas.{run-push}
@@ -76,7 +76,7 @@ done_passed done.Stayed q = omega arith
 done_passed (done.Alive expiry) q = omega arith
 done_passed done.Stranger q = omega arith
 
-one_passed : (j : Option Judged) (q : Pulled) → (counts_if j q).passed ≡ q.passed + cond (is_passed j) 1 0
+one_passed : (j : Option Judged) (q : Pulled) → (counts_if (done_in j) q).passed ≡ q.passed + cond (is_passed j) 1 0
 one_passed None q = omega arith
 one_passed (Some j) q = done_passed j.done q
 
@@ -154,11 +154,11 @@ pub looks_next : (p : Pull) (xs ys : List Answer) (a : Answer) (after : List Cla
 looks_next p xs ys a after pulled walk = next_look p xs a (answer_in p (start_of p) xs a ys walk.along).0
 
 -- ---- the end
-stopped : (p : Pull) (w : Way) (a : Answer) (ys : List Answer) → is_end_if a.judged ≡ true → IsAlong p (step p w a) ys → ys ≡ []
+stopped : (p : Pull) (w : Way) (a : Answer) (ys : List Answer) → is_end_if (done_in a.judged) ≡ true → IsAlong p (step p w a) ys → ys ≡ []
 stopped p w a [] end along = refl
 stopped p w a (y ∷ ys) end along = absurd (true_false (sym end ∙ (goes p (step p w a) along.0.goes).on))
 
-pub looks_stop : (p : Pull) (xs ys : List Answer) (a : Answer) (after : List ClassEvent) (pulled : Pulled) → IsWalk p (xs ++ a ∷ ys) after pulled → is_end_if a.judged ≡ true → ys ≡ []
+pub looks_stop : (p : Pull) (xs ys : List Answer) (a : Answer) (after : List ClassEvent) (pulled : Pulled) → IsWalk p (xs ++ a ∷ ys) after pulled → is_end_if (done_in a.judged) ≡ true → ys ≡ []
 looks_stop p xs ys a after pulled walk end = stopped p (run p (start_of p) xs) a ys end (answer_in p (start_of p) xs a ys walk.along).1
 
 ended_by : (p : Pull) (w : Way) (xs : List Answer) → IsAlong p w xs → w.ended ≡ false → (run p w xs).ended ≡ true → IsEndedBy xs

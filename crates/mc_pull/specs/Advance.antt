@@ -8,7 +8,7 @@ use Rattle.mc_rule.specs.Lists.{find, lists_of}
 use Rattle.mc_segment.specs.{ClassCalls.shifted_event, ClassState.ClassView}
 use Rattle.mc_pull.specs.declared.{judge.Done.Done, looking.Answer.Answer, looking.Judged.Judged}
 use Rattle.mc_pull.specs.declared.judge.Done.TheVariants as done
-use Rattle.mc_pull.specs.{Looks.IsJudgedIf, Looks.answer_by, Looks.events_if, Question.Question, Settled.class_with}
+use Rattle.mc_pull.specs.{Looks.IsJudgedIf, Looks.answer_by, Looks.done_in, Looks.events_if, Question.Question, Settled.class_with}
 
 -- whether this was a move to WARM
 abbrev pub is_to_warm : Done → Bool
@@ -22,9 +22,9 @@ is_to_warm (done.Alive expiry) = false
 is_to_warm done.Stranger = false
 
 -- whether a look was a move to WARM: not if the stripe wasn't reached
-abbrev pub is_to_warm_if : Option Judged → Bool
+abbrev pub is_to_warm_if : Option Done → Bool
 is_to_warm_if None = false
-is_to_warm_if (Some j) = is_to_warm j.done
+is_to_warm_if (Some made) = is_to_warm made
 
 -- one look at an entry of COLD: its key's stripe was tried once. If it was reached, what was done is what the rule of hits makes
 -- of the entry by a state of the stripe. The class has gained just the events of that, and the result is whether it moved to WARM
@@ -33,7 +33,7 @@ pub record IsHit (q : Question) (config : Config) (c c_new : ClassView) (xs ys :
   pub answers : ys ≡ xs ++ answer_by (stripe_of e.key config.stripes) judged ∷ []
   pub told : IsJudgedIf config (stripe_of e.key config.stripes) c q judged
   pub class : c_new ≡ class_with c (events_if c q judged) c_new.room
-  pub moved_is : moved ≡ is_to_warm_if judged
+  pub moved_is : moved ≡ is_to_warm_if (done_in judged)
 
 -- no stripe was tried, and nothing changed
 pub record IsUnasked (c c_new : ClassView) (xs ys : List Answer) (moved : Bool) : Type 0 where

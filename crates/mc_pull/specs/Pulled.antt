@@ -1,6 +1,6 @@
 -- What walks count.
 use Rattle.std.specs.Prelude.{ℕ, ◌+◌, Bool, false, nat_lt, Option, Some, None}
-use Rattle.mc_pull.specs.declared.{judge.Done.Done, looking.Judged.Judged, pulled.Pulled.Pulled}
+use Rattle.mc_pull.specs.declared.{judge.Done.Done, pulled.Pulled.Pulled}
 use Rattle.mc_pull.specs.declared.judge.Done.TheVariants as done
 use Rattle.mc_pull.specs.Outcome.{is_end}
 
@@ -23,15 +23,15 @@ counts_after done.Stayed p = p
 counts_after (done.Alive expiry) p = p
 counts_after done.Stranger p = record p { passed = p.passed + 1 }
 
--- the counts after an answer; an entry whose stripe was not reached is passed
-abbrev pub counts_if : Option Judged → Pulled → Pulled
+-- the counts after a look by which this was done; an entry whose stripe was not reached is passed
+abbrev pub counts_if : Option Done → Pulled → Pulled
 counts_if None p = record p { passed = p.passed + 1 }
-counts_if (Some j) p = counts_after j.done p
+counts_if (Some made) p = counts_after made p
 
--- whether a walk ends after an answer; it goes on if the stripe was not reached
-abbrev pub is_end_if : Option Judged → Bool
+-- whether a walk ends after a look by which this was done; it goes on if the stripe was not reached
+abbrev pub is_end_if : Option Done → Bool
 is_end_if None = false
-is_end_if (Some j) = is_end j.done
+is_end_if (Some made) = is_end made
 
 -- a walk did something if it reclaimed, moved or evicted at least one entry
 abbrev pub did_something : Pulled → Bool

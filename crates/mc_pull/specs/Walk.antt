@@ -6,9 +6,9 @@ use Rattle.mc_item.specs.declared.{class_event.ClassEvent.ClassEvent, config.Con
 use Rattle.mc_item.specs.Measure.{stripe_of}
 use Rattle.mc_rule.specs.{Lists.chunks_from, Lists.lists_of, Lists.list_of, Lists.count_of, Lists.from_tail, Segment.numbers_of}
 use Rattle.mc_segment.specs.ClassState.{ClassView}
-use Rattle.mc_pull.specs.declared.{judge.Judge.TheVariants.Walk, judge.Mode.Mode, judge.Mode.TheVariants.Plain, judge.Mode.TheVariants.Evict}
+use Rattle.mc_pull.specs.declared.{judge.Done.Done, judge.Judge.TheVariants.Walk, judge.Mode.Mode, judge.Mode.TheVariants.Plain, judge.Mode.TheVariants.Evict}
 use Rattle.mc_pull.specs.declared.{judge.Mode.TheVariants.Force, looking.Answer.Answer, looking.Judged.Judged, pulled.Pulled.Pulled}
-use Rattle.mc_pull.specs.{Looks.events_if, Looks.IsJudgedIf, Pulled.none_pulled, Pulled.counts_if, Pulled.is_end_if}
+use Rattle.mc_pull.specs.{Looks.done_in, Looks.events_if, Looks.IsJudgedIf, Pulled.none_pulled, Pulled.counts_if, Pulled.is_end_if}
 use Rattle.mc_pull.specs.Question.{MayWalk, Question, question}
 use Rattle.mc_pull.specs.declared.context.Context.{Context}
 
@@ -85,7 +85,7 @@ events_at p w (Some e) j = events_if (class_at p.class w.history) (question_at p
 
 -- the state of a walk after one more answer
 abbrev pub step : Pull → Way → Answer → Way
-step p w a = way (w.history ++ events_at p w (next_entry p w) a.judged) (w.left - 1) (counts_if a.judged w.pulled) (is_end_if a.judged)
+step p w a = way (w.history ++ events_at p w (next_entry p w) a.judged) (w.left - 1) (counts_if (done_in a.judged) w.pulled) (is_end_if (done_in a.judged))
 
 -- the state of a walk after these answers
 abbrev pub run : Pull → Way → List Answer → Way
@@ -97,6 +97,14 @@ pub record IsAnswer (p : Pull) (w : Way) (a : Answer) : Type 0 where
   pub goes : is_going p w ≡ true
   pub asks : IsSomeAnd (next_entry p w) (λ e. (a.stripe ≡ stripe_of e.key p.config.stripes)
       × IsJudgedIf p.config a.stripe (class_at p.class w.history) (question_at p w e) a.judged)
+
+-- a walk's next look was answered, and this was done: the gate's answers gained one that fits, and it leaves the class's history so
+pub record IsLooked (p : Pull) (w : Way) (xs ys : List Answer) (history : List ClassEvent) (made : Option Done) : Type 0 where
+  pub answer : Answer
+  pub fits : IsAnswer p w answer
+  pub answers : ys ≡ xs ++ answer ∷ []
+  pub history_is : history ≡ (step p w answer).history
+  pub made_is : made ≡ done_in answer.judged
 
 -- each of these answers in turn fits the walk
 abbrev pub IsAlong : Pull → Way → List Answer → Type 0

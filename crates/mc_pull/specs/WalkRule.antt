@@ -6,7 +6,7 @@ use Rattle.mc_item.specs.Measure.{stripe_of}
 use Rattle.mc_rule.specs.{Lists.HasFree, Lists.IsFull, Lists.lists_of, Lists.list_of, Segment.numbers_of}
 use Rattle.mc_pull.specs.declared.{judge.Done.Done, judge.Judge.TheVariants.Walk, looking.Answer.Answer, looking.Judged.Judged}
 use Rattle.mc_pull.specs.declared.judge.Done.TheVariants as done
-use Rattle.mc_pull.specs.{Growth.looks_for_chunk, Looks.IsJudgedIf, Looks.events_if, Pulled.is_end_if, Question.Question, Question.question}
+use Rattle.mc_pull.specs.{Growth.looks_for_chunk, Looks.IsJudgedIf, Looks.done_in, Looks.events_if, Pulled.is_end_if, Question.Question, Question.question}
 use Rattle.mc_pull.specs.Walk.{Pull, class_at, run, start_of}
 
 -- the class's history after these first answers of a walk
@@ -56,7 +56,7 @@ pub record IsEndedBy (xs : List Answer) : Type 0 where
   pub before : List Answer
   pub last : Answer
   pub is : xs ≡ before ++ last ∷ []
-  pub ends : is_end_if last.judged ≡ true
+  pub ends : is_end_if (done_in last.judged) ≡ true
 
 -- a walk that looks for a chunk has one
 abbrev pub HasChunk : Pull → List ClassEvent → Type 0

@@ -10,7 +10,7 @@ ghost use Rattle.mc_pull.specs.declared.judge.Judge.TheVariants as judges;
 
 use crate::context::Context;
 use crate::judge::{Done, Judge};
-use crate::looking::{Gate, Judged};
+use crate::looking::Gate;
 use crate::pulling::look_at;
 use mc_item::{Entry, Fault, Seg, stripe_of};
 use mc_segment::ClassState;
@@ -31,16 +31,10 @@ fn cold_entry(class: &ClassState, number: u64) -> Option<&Entry>
 }
 
 // Whether a look moved the entry to WARM.
-fn is_to_warm(judged: Option<Judged>) -> bool
-    ensures { result ≡ words.is_to_warm_if judged }
+fn is_to_warm(done: Option<Done>) -> bool
+    ensures { result ≡ words.is_to_warm_if done }
 {
-    matches!(
-        judged,
-        Some(Judged {
-            done: Done::ToWarm,
-            ..
-        })
-    )
+    matches!(done, Some(Done::ToWarm))
 }
 
 /// Moves the entry of an item that was hit from COLD to WARM's head, with the moment as its time, clears the item's ACTIVE
@@ -67,6 +61,6 @@ pub fn advance<G: Gate>(
     };
     let stripe = stripe_of(&entry.key, context.config.stripes);
     let hit = Judge::Hit;
-    let judged = look_at(context, class, stripe, number, &hit, gate)?;
-    Ok(is_to_warm(judged))
+    let done = look_at(context, class, stripe, number, &hit, gate)?;
+    Ok(is_to_warm(done))
 }

@@ -1,7 +1,7 @@
 //! A law of walks.
 ghost use Rattle.std.specs.Prelude.{◌≡◌, ◌≤◌, ◌++◌, ◌∷◌, [], List, true, length};
 ghost use Rattle.mc_item.specs.declared.class_event.ClassEvent.{ClassEvent};
-ghost use Rattle.mc_pull.specs.{Pulled.is_end_if, Walk.Pull, Walk.IsWalk};
+ghost use Rattle.mc_pull.specs.{Looks.done_in, Pulled.is_end_if, Walk.Pull, Walk.IsWalk};
 ghost use Rattle.mc_pull.specs.WalkRule.{entries_at_start, history_after, HasEnded, IsNextLook};
 ghost use Rattle.mc_pull.specs.declared.{looking.Answer.Answer, pulled.Pulled.Pulled};
 
@@ -15,7 +15,7 @@ pub fn walks_go_from_the_tail()
     ensures next { (p : Pull) (xs ys : List Answer) (a : Answer) (after : List ClassEvent) (pulled : Pulled)
         → IsWalk p (xs ++ a ∷ ys) after pulled → IsNextLook p xs a }
     ensures stops { (p : Pull) (xs ys : List Answer) (a : Answer) (after : List ClassEvent) (pulled : Pulled)
-        → IsWalk p (xs ++ a ∷ ys) after pulled → is_end_if a.judged ≡ true → ys ≡ [] }
+        → IsWalk p (xs ++ a ∷ ys) after pulled → is_end_if (done_in a.judged) ≡ true → ys ≡ [] }
     ensures ends { (p : Pull) (xs : List Answer) (after : List ClassEvent) (pulled : Pulled) → IsWalk p xs after pulled
         → (after ≡ history_after p xs) × HasEnded p xs after }
 {}

@@ -1,8 +1,8 @@
 //! Looks: how a walk reaches the stripe of an entry's key, through a gate.
-ghost use Rattle.std.specs.Prelude.{◌≡◌, None, is_some, IfOk, IfErr, OnOk, OnErr};
+ghost use Rattle.std.specs.Prelude.{◌≡◌, None, Some, is_some, IfOk, IfErr, OnOk, OnErr};
 ghost use Rattle.mc_segment.specs.ClassState.{with_room};
 ghost use Rattle.mc_stripe.specs.StripeState.{cache_now};
-ghost use Rattle.mc_pull.specs.{Gates.LeavesGate, Gates.MayLook, Judgement.done_of, Looks.IsAnswered, Looks.IsDone, Looks.MaySettle};
+ghost use Rattle.mc_pull.specs.{Gates.LeavesGate, Gates.MayLook, Judgement.done_of, Looks.IsAnswered, Looks.IsJudgedBy, Looks.MaySettle};
 ghost use Rattle.mc_pull.specs.{Refusal.Refuses, Settled.IsSettled, Sight.KeepsPartners, Walker.walker_of};
 ghost use Rattle.mc_pull.specs.Question.{question_by, question_of};
 
@@ -12,16 +12,17 @@ use crate::settling::settle_ask;
 use mc_item::{Fault, StripeNo};
 use mc_segment::ClassState;
 use mc_stripe::StripeState;
+use std::snapshot::Snapshot;
 
-/// What was done with an entry, and how many events its stripe had before that.
-#[derive(Clone, Copy, Debug, PartialEq, Eq)]
+/// What was done with an entry, and its stripe as it was before that, which only contracts see.
+#[derive(Drop)]
 pub struct Judged {
     pub done: Done,
-    pub at: u64,
+    pub state: Snapshot<StripeState>,
 }
 
 /// A gate's answer: the stripe that it was asked for, and what was done, if the stripe was reached.
-#[derive(Clone, Copy, Debug, PartialEq, Eq)]
+#[derive(Drop)]
 pub struct Answer {
     pub stripe: StripeNo,
     pub judged: Option<Judged>,
@@ -32,7 +33,7 @@ pub struct Answer {
 pub struct Look<'a> {
     pub class: &'a mut ClassState,
     pub ask: Ask<'a>,
-    pub judged: Option<Judged>,
+    pub done: Option<Done>,
 }
 
 impl<'a> Look<'a> {
@@ -47,7 +48,7 @@ impl<'a> Look<'a> {
         ensures class { result.class.now ≡ class.old }
         ensures ask { question_of result.ask ≡ question_by context.entry number judge.now }
         ensures config { result.ask.config.now ≡ context.entry.config.now }
-        ensures judged { result.judged ≡ None }
+        ensures done { result.done ≡ None }
     {
         Look {
             class,
@@ -58,29 +59,33 @@ impl<'a> Look<'a> {
                 moment: context.turn.moment,
                 config: context.config,
             },
-            judged: None,
+            done: None,
         }
     }
 
-    /// Judges the entry with its stripe, once, and returns what was done.
+    /// Judges the entry with its stripe, once. Notes what was done, and returns it for the gate's answer.
     /// Errors: `HistoryFull` if the class or the stripe has no place in its history for what is to be done, `NoMemory` if memory
     /// is refused. Neither history has changed then.
-    pub fn settle(&mut self, stripe: &mut StripeState) -> Result<Done, Fault>
+    pub fn settle(&mut self, stripe: &mut StripeState) -> Result<Judged, Fault>
         requires look { MaySettle self.old stripe.old }
         ensures same_reference { self.new.class.ghost_name ≡ self.old.class.ghost_name }
         ensures ask { self.new.ask ≡ self.old.ask }
-        ensures done { IfOk result (IsDone self.old stripe.old self.new.judged) }
-        ensures settled { IfOk result (λ made. IsSettled self.old.class.now self.new.class.now stripe.old stripe.new (question_of self.old.ask) made) }
+        ensures done { IfOk result (λ judged. self.new.done ≡ Some judged.done) }
+        ensures follows { IfOk result (IsJudgedBy (λ state. state ≡ stripe.old) self.old.ask.config.now (record { 0 = stripe.old.site.stripe })
+            self.old.class.now (question_of self.old.ask)) }
+        ensures settled { IfOk result (λ judged. IsSettled self.old.class.now self.new.class.now stripe.old stripe.new (question_of self.old.ask)
+            judged.done) }
         ensures keeps { KeepsPartners self.old.class.now self.new.class.now stripe.old stripe.new }
         ensures err { OnErr result ((self.new.class.now ≡ with_room self.old.class.now self.new.class.now.room) × (stripe.new.history ≡ stripe.old.history)) }
         ensures refusal { IfErr result (Refuses self.old.class.now self.new.class.now stripe.old stripe.new (done_of self.old.class.now (cache_now
             stripe.old) (question_of self.old.ask))) }
     {
-        let at = stripe.history().len() as u64;
+        stripe.history();
+        let state = Snapshot::of(&*stripe);
         let class = &mut *self.class;
         let done = settle_ask(class, stripe, &self.ask)?;
-        self.judged = Some(Judged { done, at });
-        Ok(done)
+        self.done = Some(done);
+        Ok(Judged { done, state })
     }
 }
 
@@ -116,11 +121,11 @@ pub trait Gate {
     /// Errors: those that `faults` allows. The class's history and the answers are then unchanged.
     fn visit(&mut self, stripe: StripeNo, look: &mut Look<'_>) -> Result<bool, Fault>
         requires look { MayLook serves look.old.ask.config.now self.old stripe look.old.class.now (question_of look.old.ask) }
-        requires once { look.old.judged ≡ None }
+        requires once { look.old.done ≡ None }
         ensures same_reference { look.new.class.ghost_name ≡ look.old.class.ghost_name }
-        ensures had { IfOk result (λ had. is_some look.new.judged ≡ had) }
+        ensures had { IfOk result (λ had. is_some look.new.done ≡ had) }
         ensures answer { OnOk result (IsAnswered (reaches self.old self.new) look.old.ask.config.now stripe (question_of look.old.ask)
-            look.old.class.now look.new.class.now (answers self.old) (answers self.new) look.new.judged) }
+            look.old.class.now look.new.class.now (answers self.old) (answers self.new) look.new.done) }
         ensures err { OnErr result ((look.new.class.now ≡ with_room look.old.class.now look.new.class.now.room) × (answers self.new ≡ answers self.old)) }
         ensures fault { IfErr result (faults self.new look.new.class.now) }
         ensures gate { LeavesGate references serves keeps look.old.ask.config.now (walker_of look.old.class.now look.old.ask.who look.old.ask.moment)

@@ -4,7 +4,6 @@ ghost use Rattle.mc_pull.specs.Pulled as words;
 ghost use Rattle.mc_pull.specs.Pulled.{none_pulled, counts_if, sum_of};
 
 use crate::judge::Done;
-use crate::looking::Judged;
 
 /// How many entries a walk has reclaimed, moved, evicted and passed.
 #[derive(Clone, Copy, Debug, PartialEq, Eq)]
@@ -28,17 +27,17 @@ impl Pulled {
     }
 
     // The counts after one more answer of a gate.
-    pub(crate) fn counted(self, judged: Option<Judged>) -> Pulled
+    pub(crate) fn counted(self, done: Option<Done>) -> Pulled
         requires { sum_of self < 2 ^ 63 }
-        ensures { result ≡ counts_if judged self }
+        ensures { result ≡ counts_if done self }
     {
-        let Some(judged) = judged else {
+        let Some(done) = done else {
             return Pulled {
                 passed: self.passed + 1,
                 ..self
             };
         };
-        match judged.done {
+        match done {
             Done::Reclaimed => Pulled {
                 reclaimed: self.reclaimed + 1,
                 ..self
@@ -80,14 +79,11 @@ impl Pulled {
 }
 
 // Whether a walk ends after an answer.
-pub(crate) fn ends_with(judged: Option<Judged>) -> bool
-    ensures { result ≡ words.is_end_if judged }
+pub(crate) fn ends_with(done: Option<Done>) -> bool
+    ensures { result ≡ words.is_end_if done }
 {
     matches!(
-        judged,
-        Some(Judged {
-            done: Done::ToWarm | Done::ToCold | Done::Evicted | Done::Stayed | Done::Alive(_),
-            ..
-        })
+        done,
+        Some(Done::ToWarm | Done::ToCold | Done::Evicted | Done::Stayed | Done::Alive(_))
     )
 }

@@ -4,12 +4,12 @@ ghost use Rattle.mc_segment.specs.ClassState.{with_room};
 ghost use Rattle.mc_pull.specs.{Gates.IsServedBy, Gates.LeavesGate, Gates.MayLook, Growth.GainsEvents, Growth.GainsFor, Growth.looks_for_chunk};
 ghost use Rattle.mc_pull.specs.{Looks.IsAnswered, Pulled.sum_of, Question.MayWalk, Question.question_by, Walker.walker_by};
 ghost use Rattle.mc_pull.specs.Walk as words;
-ghost use Rattle.mc_pull.specs.Walk.{pull_by, way, step, IsAnswer, IsWalk, IsBrokenWalk, MayLookNext};
+ghost use Rattle.mc_pull.specs.Walk.{pull_by, way, IsLooked, IsWalk, IsBrokenWalk, MayLookNext};
 ghost use Rattle.mc_pull.specs.declared.looking.Answer.{Answer};
 
 use crate::context::Context;
-use crate::judge::{Judge, Mode};
-use crate::looking::{Answer, Gate, Judged, Look};
+use crate::judge::{Done, Judge, Mode};
+use crate::looking::{Gate, Look};
 use crate::pulled::{Pulled, ends_with};
 use mc_item::{Fault, Seg, StripeNo, stripe_of};
 use mc_segment::ClassState;
@@ -36,7 +36,7 @@ pub fn look_at<G: Gate>(
     number: u64,
     judge: &Judge,
     gate: &mut G,
-) -> Result<Option<Judged>, Fault>
+) -> Result<Option<Done>, Fault>
     requires look { MayLook G.serves context.config.now gate.old stripe class.old (question_by context number judge.now) }
     ensures answer { IfOk result (IsAnswered (G.reaches gate.old gate.new) context.entry.config.now stripe (question_by context.entry number
         judge.now) class.old class.new (G.answers gate.old) (G.answers gate.new)) }
@@ -46,8 +46,7 @@ pub fn look_at<G: Gate>(
 {
     let mut look = Look::new(context, class, number, judge);
     gate.visit(stripe, &mut look)?;
-    let judged = look.judged;
-    Ok(judged)
+    Ok(look.done)
 }
 
 // Looks at the next entry of a walk.
@@ -58,13 +57,11 @@ fn look_next<G: Gate>(
     mode: Mode,
     pulled: Pulled,
     gate: &mut G,
-) -> Result<Answer, Fault>
+) -> Result<Option<Done>, Fault>
     requires next { MayLookNext class.old seg mode context pulled }
     requires gate { IsServedBy G.serves context.config.now context.turn.who gate.old class.old }
-    ensures answer { (left : ℕ) → 0 < left → IfOk result (λ a. IsAnswer (pull_by class.old seg mode context.entry) (way class.old.history left pulled false)
-        a × (G.answers gate.new ≡ G.answers gate.old ++ a ∷ [])) }
-    ensures class { (left : ℕ) → IfOk result (λ a. class.new.history ≡ (step (pull_by class.old seg mode context.entry) (way class.old.history left pulled
-        false) a).history) }
+    ensures looked { (left : ℕ) → 0 < left → IfOk result (IsLooked (pull_by class.old seg mode context.entry) (way class.old.history left pulled false)
+        (G.answers gate.old) (G.answers gate.new) class.new.history) }
     ensures grows { GainsEvents class.old class.new }
     ensures err { OnErr result ((class.new.history ≡ class.old.history) × (G.answers gate.new ≡ G.answers gate.old)) }
     ensures fault { IfErr result (G.faults gate.new class.new) }
@@ -78,8 +75,8 @@ fn look_next<G: Gate>(
         mode,
         passed: class.passed(seg, pulled.passed),
     };
-    let judged = look_at(context, class, stripe, number, &judge, gate)?;
-    Ok(Answer { stripe, judged })
+    let done = look_at(context, class, stripe, number, &judge, gate)?;
+    Ok(done)
 }
 
 /// Walks along a list from its tail, and returns how many entries it reclaimed, moved, evicted and passed. It looks at up to five
@@ -111,10 +108,10 @@ pub fn pull_tail<G: Gate>(
         if !is_wanted(class, mode) {
             break;
         }
-        let answer = look_next(context, class, seg, mode, pulled, gate)?;
+        let done = look_next(context, class, seg, mode, pulled, gate)?;
         left -= 1;
-        pulled = pulled.counted(answer.judged);
-        if ends_with(answer.judged) {
+        pulled = pulled.counted(done);
+        if ends_with(done) {
             break;
         }
     }

@@ -154,7 +154,7 @@ full_short config number s s_new sight command moment of limit told = by
     long = ap (λ (l : List Event). length l) told ∙ map_length events.Stripe s_new.history
 
     own : s_new.limit ≤ length s_new.history → HasSeenShort config sight
-    own full = record { lock = number; of = omega (arith, of); short = omega (arith, long, limit, full) }
+    own full = record { lock = number; of = omega (arith, of); short = omega (arith, long, limit, full); stripe = λ own. omega (arith, long, limit, full) }
 
     by : IsFullFor config s s_new sight command moment → HasSeenShort config sight
     by (inl full) = own full

@@ -15,7 +15,7 @@ use Rattle.mc_board.specs.{Accounts.AreBy, Accounts.with_new, Histories.Grows, H
 use Rattle.mc_board.specs.declared.rule.Sight.{Sight}
 use Rattle.mc_board.proofs.{AccountLemmas.are_by_gained, AccountLemmas.are_by_one, PrefixLemmas.prefix_length, PrefixLemmas.prefix_more, PrefixLemmas.prefix_self, PrefixLemmas.same_or_not}
 use Rattle.mc_board.proofs.SeenLemmas.{list_at_other, list_at_same}
-use Rattle.mc_pull.specs.declared.{context.Context.Context, looking.Answer.Answer, looking.Judged.Judged}
+use Rattle.mc_pull.specs.declared.{context.Context.Context, judge.Done.Done, looking.Answer.Answer}
 use Rattle.mc_pull.specs.{Lone.AreMadeBy, Lone.StripeGrows, Looks.IsAnswered, Looks.answer_by, Question.IsClassOf, Question.Question, Settled.class_with, Walker.Walker}
 use Rattle.mc_store.specs.Accounts.{IsOfStretch, IsOfWalk, StillCalls, stretch_of}
 use Rattle.mc_store.specs.{Locked.class_lock, Locked.setting_of, Passes.CallerView, Serving.IsServed, Serving.IsShortFor, Serving.MayFailSeen}
@@ -259,7 +259,8 @@ room_full table config who owner seen c served sight lock at list more r may is 
 
 -- ---- looks
 -- a look whose stripe was not reached was answered so
-pub passed_by : {R : Stripe → Type 0} (config : Config) (stripe : StripeNo) (q : Question) (c : ClassView) (xs ys : List Answer) (judged : Option Judged) → judged ≡ None → ys ≡ xs ++ answer_by stripe None ∷ []
-    → IsAnswered R config stripe q c c xs ys judged
-passed_by {R = R} config stripe q c xs ys judged none is =
-    subst (IsAnswered R config stripe q c c xs ys) (sym none) record { answers = is; class = ap (λ (h : List ClassEvent). record c { history = h }) (sym (append-nil c.history)); reached = tt }
+pub passed_by : {R : Stripe → Type 0} (config : Config) (stripe : StripeNo) (q : Question) (c : ClassView) (xs ys : List Answer) (made : Option Done) → made ≡ None → ys ≡ xs ++ answer_by stripe None ∷ []
+    → IsAnswered R config stripe q c c xs ys made
+passed_by {R = R} config stripe q c xs ys made none is =
+    subst (IsAnswered R config stripe q c c xs ys) (sym none)
+    record { judged = None; made_is = refl; answers = is; class = ap (λ (h : List ClassEvent). record c { history = h }) (sym (append-nil c.history)); reached = tt }

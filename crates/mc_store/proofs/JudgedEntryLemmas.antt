@@ -1,6 +1,6 @@
 -- A judgement of a class's entry with its key's stripe, where the class's tokens are apart from it: each call that tells.
 use Rattle.std.proofs.Common.{◌≡◌, ◌<◌, ℕ, List, arith, drop, length, refl, sym, ap, ◌∙◌, subst}
-use Rattle.std.specs.Prelude.{◌≤◌, Option, Some, IsSomeAnd}
+use Rattle.std.specs.Prelude.{◌≤◌}
 use mathlib.Core.List.{IsPrefix}
 use Rattle.atomic_table.specs.Seated.{TableId}
 use Rattle.mc_item.specs.Stripe.{IsLegal}
@@ -11,8 +11,8 @@ use Rattle.mc_board.specs.declared.rule.Sight.{Sight}
 use Rattle.mc_board.proofs.{AccountLemmas.are_by_end, PrefixLemmas.prefix_length, PrefixLemmas.prefix_self, SeenLemmas.list_at_other, SeenLemmas.list_at_same}
 use Rattle.mc_segment.specs.ClassState.{ClassView, chunks_for}
 use Rattle.mc_stripe.specs.{StripeCalls.KeepsSite, StripeState.Stripe, StripeState.cache_now}
-use Rattle.mc_pull.specs.declared.{judge.Done.Done, looking.Judged.Judged}
-use Rattle.mc_pull.specs.{Agreeing.AgreeNow, Agreeing.KeepsAgreement, Judgement.done_of, Lone.StripeGrows, Looks.judgement, Question.HasKeyOf}
+use Rattle.mc_pull.specs.declared.looking.Judged.{Judged}
+use Rattle.mc_pull.specs.{Agreeing.AgreeNow, Agreeing.KeepsAgreement, Judgement.done_of, Lone.StripeGrows, Question.HasKeyOf}
 use Rattle.mc_pull.specs.{Question.MayJudge, Question.Question, Refusal.MayFail, Sight.KeepsSight, Walker.Walker}
 use Rattle.mc_pull.specs.Growth as classes
 use Rattle.mc_pull.proofs.NoStrangerLemmas.{known}
@@ -63,16 +63,12 @@ module _ (table : TableId) (config : Config) (own : StripeSide) (own_kept : IsLo
   agree = agree_told table config before (class_side owner seen c) before_kept served.kept lent_seen.sight heard.sight told_is told_of_is more_is more_of
 
   -- what was done with an entry of the stripe is what the stripe tells, which knows it
-  pub known_judged : (q : Question) (j : Option Judged) (d : Done) (at : ℕ) → MayJudge c q → HasKeyOf (record { 0 = s_lent.site.stripe }) config c q → d ≡ done_of c (cache_now s_lent) q → j ≡ Some (judgement d at)
-      → IsSomeAnd j (IsKnown c s_lent q)
-  known_judged q j d at may keyed is judged =
+  pub known_judged : (q : Question) (j : Judged) → MayJudge c q → HasKeyOf (record { 0 = s_lent.site.stripe }) config c q → j.done ≡ done_of c (cache_now s_lent) q → IsKnown c s_lent q j
+  known_judged q j may keyed is =
       let legal = subst (λ (t : Site). IsLegal t s_lent.history) (site_of_number config s_lent own_now.made_with) own_now.keeps.legal in
       let lawful = subst (λ (n : ℕ). IsLawfulHistoryByLists n c.rule c.history) (sym class_now.made_with.chunks)
       (subst (λ (r : Rule). IsLawfulHistoryByLists (chunks_for config c.number) r c.history) (sym class_now.made_with.rule) class_now.keeps.lawful) in
-      subst (λ (o : Option Judged). IsSomeAnd o (IsKnown c s_lent q)) (sym judged) (record {
-        done_is = is;
-        known = λ stranger. known c s_lent config q agree lawful legal (judged_listed c q may) own_now.made_with.stripes keyed (sym is ∙ stranger);
-      })
+      record { done_is = is; known = λ stranger. known c s_lent config q agree lawful legal (judged_listed c q may) own_now.made_with.stripes keyed (sym is ∙ stranger) }
 
   -- the class's token has then seen the stripe as it was judged, after all that it had seen of it before
   pub state_judged : (last : Sight) → Grows heard.sight last → IsStateBetween config.stripes (seen_stripes seen.sight) (seen_stripes last) s_lent

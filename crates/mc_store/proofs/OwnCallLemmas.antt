@@ -72,11 +72,11 @@ pub stripe_walked_by : (w : Walker) (had : List Event) (s s_new : Stripe) → ha
 stripe_walked_by w had s s_new is grows = stripe_gained_by w.who had s.history s_new.history grows.events is grows.history_is (walked_by w grows.events grows.each)
 
 -- of a class with a judgement's events, however that ended
-pub class_settled_by : (c c_new : ClassView) (s s_new : Stripe) (q : Question) (r : Result Done Fault) → IfOk r (λ made. IsSettled c c_new s s_new q made)
+pub class_settled_by : {T : Type 0} (made : T → Done) (c c_new : ClassView) (s s_new : Stripe) (q : Question) (r : Result T Fault) → IfOk r (λ x. IsSettled c c_new s s_new q (made x))
     → OnErr r ((c_new ≡ with_room c c_new.room) × (s_new.history ≡ s.history)) → (had : List Event) → had ≡ class_told c.history → AreBy q.who (drop (length had) (class_told c_new.history))
-class_settled_by c c_new s s_new q (Ok made) settled err had is =
-    class_own_by q.who q.moment had c.history c_new.history is (gains_judged c c_new q (Some (judgement made (length s.history))) settled.class)
-class_settled_by c c_new s s_new q (Err fault) settled err had is =
+class_settled_by made c c_new s s_new q (Ok x) settled err had is =
+    class_own_by q.who q.moment had c.history c_new.history is (gains_judged c c_new q (Some (judgement (made x) s)) settled.class)
+class_settled_by made c c_new s s_new q (Err fault) settled err had is =
     class_own_by q.who q.moment had c.history c_new.history is (gains_none q.who q.moment c.history c_new.history (ap (λ (v : ClassView). v.history) err.0))
 
 -- of a stripe with a command's event, if it was made

@@ -14,7 +14,19 @@ use Rattle.mc_stripe.specs.StripeState.{Stripe, cache_now}
 use Rattle.mc_pull.specs.declared.{judge.Done.Done, judge.Judge.Judge, judge.Judge.TheVariants.Walk, judge.Judge.TheVariants.Dead}
 use Rattle.mc_pull.specs.declared.{judge.Judge.TheVariants.Hit, looking.Answer.Answer, looking.Judged.Judged}
 use Rattle.mc_pull.specs.declared.judge.Done.TheVariants as done
-use Rattle.mc_pull.specs.{Growth.GainsFor, Growth.NoneLooks, Judgement.done_of, Lent.EachPair, Looks.IsAnswered, Looks.events_if, Perform.Call, Performed.GainsPart, Performed.IsPerformed, Performed.IsUntouched}
+use Rattle.mc_pull.specs.{
+  Growth.GainsFor,
+  Growth.NoneLooks,
+  Judgement.done_of,
+  Lent.EachPair,
+  Looks.IsAnswered,
+  Looks.events_if,
+  Looks.judged_by,
+  Perform.Call,
+  Performed.GainsPart,
+  Performed.IsPerformed,
+  Performed.IsUntouched,
+}
 use Rattle.mc_pull.specs.{Question.Question, Question.question}
 use Rattle.mc_pull.specs.Suited.{AreSuited, MayNeedChunk}
 use Rattle.mc_pull.specs.Performed as performed
@@ -80,7 +92,7 @@ own_done c q at done.Stranger = tt
 
 own_judged : (c : ClassView) (q : Question) (j : Option Judged) → AreOwnEvents q.who q.moment (events_if c q j)
 own_judged c q None = tt
-own_judged c q (Some j) = own_done c q j.at j.done
+own_judged c q (Some j) = own_done c q (length (judged_by j).history) j.done
 
 -- a class after an answer
 pub gains_judged : (c c_new : ClassView) (q : Question) (j : Option Judged) → c_new ≡ class_with c (events_if c q j) c_new.room → GainsOwn q.who q.moment c.history c_new.history
@@ -185,7 +197,7 @@ surveys_done c q at done.Stranger = tt
 
 surveys_judged : (c : ClassView) (q : Question) (j : Option Judged) → NoneSurveys (events_if c q j)
 surveys_judged c q None = tt
-surveys_judged c q (Some j) = surveys_done c q j.at j.done
+surveys_judged c q (Some j) = surveys_done c q (length (judged_by j).history) j.done
 
 -- a search that has just begun
 pub searches_none : (who : Who) (moment : ℕ) (sight : Sight) (history : List ClassEvent) → SearchesOwn who moment sight sight history history
@@ -211,10 +223,10 @@ searches_failed who moment a b c h k l so more same = record {
 
 -- or whatever a visit of another stripe came to
 pub searches_visited : {T : Type 0} (R : Stripe → Type 0) (X : Type 0) (config : Config) (stripe : StripeNo) (xs ys : List Answer) (q : Question) (a b c : Sight) (h : List ClassEvent)
-    (v w : ClassView) (j : Option Judged) (r : Result T Fault)
-    → SearchesOwn q.who q.moment a b h v.history → Grows b c → OnOk r (IsAnswered R config stripe q v w xs ys j) → OnErr r ((w ≡ with_room v w.room) × X) → SearchesOwn q.who q.moment a c h w.history
-searches_visited R X config stripe xs ys q a b c h v w j (Ok x) so more answered err = searches_judged q a b c h v w j so more answered.class
-searches_visited R X config stripe xs ys q a b c h v w j (Err f) so more answered err = searches_failed q.who q.moment a b c h v.history w.history so more (ap (λ (x : ClassView). x.history) err.0)
+    (v w : ClassView) (made : Option Done) (r : Result T Fault)
+    → SearchesOwn q.who q.moment a b h v.history → Grows b c → OnOk r (IsAnswered R config stripe q v w xs ys made) → OnErr r ((w ≡ with_room v w.room) × X) → SearchesOwn q.who q.moment a c h w.history
+searches_visited R X config stripe xs ys q a b c h v w made (Ok x) so more answered err = searches_judged q a b c h v w answered.judged so more answered.class
+searches_visited R X config stripe xs ys q a b c h v w made (Err f) so more answered err = searches_failed q.who q.moment a b c h v.history w.history so more (ap (λ (x : ClassView). x.history) err.0)
 
 -- a command that may need a chunk may make what a search makes
 pub suited_search : (who : Who) (moment : ℕ) (command : Command) → MayNeedChunk command → (es : List ClassEvent) → AreOwnEvents who moment es → NoneSurveys es → AreSuited command es

@@ -111,7 +111,7 @@ short_grows config a b grows seen = record {
 -- what is short for a class is one of the store's
 pub short_lock : (config : Config) (sight : Sight) {class : ClassNo} → IsShortFor config class sight → HasSeenShort config sight
 short_lock config sight {class = class} seen =
-    record { lock = seen.lock; of = below seen.of; short = let full = seen.full in omega (arith, full) }
+    record { lock = seen.lock; of = below seen.of; short = let full = seen.full in omega (arith, full); stripe = λ of. seen.full }
   where
     below : (seen.lock ≡ class_lock config class) ⊎ (seen.lock < config.stripes) → seen.lock < locks_for config
     below (inl same) =
@@ -125,4 +125,4 @@ pub two_short : (config : Config) (sight : Sight) (class : ClassNo) → LacksPla
 two_short config sight class lacks =
     let first = lacks.is.0 in
     let last = lacks.is.1 in
-    record { lock = class_lock config class; of = omega (arith, first, last); short = lacks.short }
+    record { lock = class_lock config class; of = omega (arith, first, last); short = lacks.short; stripe = λ of. absurd (omega (arith, of)) }

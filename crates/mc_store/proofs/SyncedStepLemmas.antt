@@ -48,24 +48,24 @@ stripe_told_more h h_new es told grows is =
     (stripe_told es, ap (λ (t : List Event). t ++ stripe_told es) is ∙ (sym (map_append events.Stripe h es) ∙ sym (ap stripe_told grows)))
 
 -- a class is the same but for its events and its room, whichever way a judgement of it ended
-pub settled_grows : (c c_new : ClassView) (s s_new : Stripe) (q : Question) (result : Result Done Fault) → IfOk result (λ made. IsSettled c c_new s s_new q made)
+pub settled_grows : {T : Type 0} (made : T → Done) (c c_new : ClassView) (s s_new : Stripe) (q : Question) (result : Result T Fault) → IfOk result (λ x. IsSettled c c_new s s_new q (made x))
     → OnErr result ((c_new ≡ with_room c c_new.room) × (s_new.history ≡ s.history)) → classes.GainsEvents c c_new
-settled_grows c c_new s s_new q (Ok made) settled err = record {
+settled_grows made c c_new s s_new q (Ok x) settled err = record {
   same = settled.class ∙ ap (λ (h : List ClassEvent). record c { history = h; room = c_new.room }) (sym (ap (λ (v : ClassView). v.history) settled.class));
-  events = done_class_events c q (length s.history) made;
+  events = done_class_events c q (length s.history) (made x);
   history_is = ap (λ (v : ClassView). v.history) settled.class;
 }
-settled_grows c c_new s s_new q (Err fault) settled err = record {
+settled_grows made c c_new s s_new q (Err fault) settled err = record {
   same = err.0 ∙ ap (λ (h : List ClassEvent). record c { history = h; room = c_new.room }) (sym (ap (λ (v : ClassView). v.history) err.0));
   events = [];
   history_is = ap (λ (v : ClassView). v.history) err.0 ∙ sym (append-nil c.history);
 }
 
 -- and its stripe tells more
-pub settled_told : (c c_new : ClassView) (s s_new : Stripe) (q : Question) (result : Result Done Fault) → IfOk result (λ made. IsSettled c c_new s s_new q made)
+pub settled_told : {T : Type 0} (made : T → Done) (c c_new : ClassView) (s s_new : Stripe) (q : Question) (result : Result T Fault) → IfOk result (λ x. IsSettled c c_new s s_new q (made x))
     → OnErr result ((c_new ≡ with_room c c_new.room) × (s_new.history ≡ s.history)) → (told : List Event) → told ≡ stripe_told s.history → IsPrefix told (stripe_told s_new.history)
-settled_told c c_new s s_new q (Ok made) settled err told is = stripe_told_more s.history s_new.history (done_stripe_events c q made) told settled.stripe is
-settled_told c c_new s s_new q (Err fault) settled err told is = stripe_told_more s.history s_new.history [] told (err.1 ∙ sym (append-nil s.history)) is
+settled_told made c c_new s s_new q (Ok x) settled err told is = stripe_told_more s.history s_new.history (done_stripe_events c q (made x)) told settled.stripe is
+settled_told made c c_new s s_new q (Err fault) settled err told is = stripe_told_more s.history s_new.history [] told (err.1 ∙ sym (append-nil s.history)) is
 
 -- a fault that was handed on is the one that was answered
 pub handed_on : {T : Type 0} (P : Fault → Type 0) (fault : Fault) (r : Result T Fault) → IsErrAnd r (λ x. x ≡ fault) → P fault → IfErr r P

@@ -11,7 +11,10 @@ use Rattle.mc_pull.specs.Broken.{BreaksJuggle, BreaksRounds, BreaksTemp}
 use Rattle.mc_pull.specs.{Advance.MovesIf, Growth.GainsEvents, Juggle.IsJuggle, Juggle.Juggling, Question.question, Rounds.Rounds, Rounds.rounds}
 use Rattle.mc_pull.specs.declared.looking.Answer.{Answer}
 use Rattle.mc_pull.specs.declared.judge.Judge.TheVariants as judges
-use Rattle.mc_store.specs.Calls.{IsJuggleCut, IsUpkeepCut, IsUpkept}
+use Rattle.mc_stripe.specs.StripeState.{Stripe}
+use Rattle.mc_store.specs.Calls.{IsJuggleCut, IsJuggledWith, IsUpkeepCut, IsUpkept}
+use Rattle.mc_store.specs.Reached.{AreJudgedBy}
+use Rattle.mc_store.proofs.ReachedLemmas.{judged_more}
 use Rattle.mc_store.specs.Hits.{AreAdvanced, AreTaken, IsAdvancedBy, IsAdvancedTill, Takes, queue_of, with_taking}
 
 -- of the hands that took something nothing else has changed
@@ -95,46 +98,74 @@ takes_cut queue turn old new history history_new till = record {
 }
 
 -- first the hits, then the rounds
-pub upkept_by : (config : Config) (old mid new : ClassView) (turn : Turn) (hands hands_new : HandsView) (r : Result Moves Fault) → GainsEvents old mid → GainsEvents mid new
-    → IsAdvancedBy (queue_of old.number) turn hands hands_new old.history mid.history
-    → IfOk r (λ moves. (xs : List Answer) × IsJuggle (rounds mid turn.who turn.moment config) mid.history xs new.history moves)
-    → IfOk r (IsUpkept config old turn hands hands_new new.history)
-upkept_by config old mid new turn hands hands_new (Ok moves) first more by made = record {
+pub upkept_by : (config : Config) (R Q : Stripe → Type 0) → ((s : Stripe) → R s → Q s) → (old mid new : ClassView) (turn : Turn) (hands hands_new : HandsView) (r : Result Moves Fault) → GainsEvents old mid
+    → GainsEvents mid new → IsAdvancedBy (queue_of old.number) turn hands hands_new old.history mid.history
+    → IfOk r (IsJuggledWith R (rounds mid turn.who turn.moment config) mid.history new.history)
+    → IfOk r (IsUpkept config Q old turn hands hands_new new.history)
+upkept_by config R Q wider old mid new turn hands hands_new (Ok moves) first more by made = record {
   advances = first.events;
   advanced = subst (λ (h : List ClassEvent). IsAdvancedBy (queue_of old.number) turn hands hands_new old.history h) first.history_is by;
   own = more.events;
   history_is = more.history_is ∙ ap (λ (h : List ClassEvent). h ++ more.events) first.history_is;
-  answers = made.0;
-  juggle = subst (λ (h : List ClassEvent). IsJuggle (rounds old turn.who turn.moment config) h made.0 (h ++ more.events) moves) first.history_is
-      (subst (λ (r : Rounds). IsJuggle r mid.history made.0 (mid.history ++ more.events) moves) (ap (λ (v : ClassView). rounds v turn.who turn.moment config) first.same)
-      (subst (λ (h : List ClassEvent). IsJuggle (rounds mid turn.who turn.moment config) mid.history made.0 h moves) more.history_is made.1));
+  juggled = (
+    made.0,
+    subst (λ (h : List ClassEvent). IsJuggle (rounds old turn.who turn.moment config) h made.0 (h ++ more.events) moves) first.history_is
+        (subst (λ (r : Rounds). IsJuggle r mid.history made.0 (mid.history ++ more.events) moves) (ap (λ (v : ClassView). rounds v turn.who turn.moment config) first.same)
+        (subst (λ (h : List ClassEvent). IsJuggle (rounds mid turn.who turn.moment config) mid.history made.0 h moves) more.history_is made.1)),
+    judged_more R Q wider made.0 made.2,
+  );
 }
-upkept_by config old mid new turn hands hands_new (Err fault) first more by made = tt
+upkept_by config R Q wider old mid new turn hands hands_new (Err fault) first more by made = tt
 
 -- juggling that a gate's fault ended is one that any fault ended
-pub breaks_any : (r : Rounds) (Faults : Fault → Type 0) (fault : Fault) (before after : List ClassEvent) (xs : List Answer) → BreaksJuggle r Faults fault before xs after → IsJuggleCut r fault before after
-breaks_any r Faults fault before after xs (inl temp) = (xs, inl (in_temp r.class.rule.temp temp))
+breaks_any : (r : Rounds) (Faults : Fault → Type 0) (fault : Fault) (before after : List ClassEvent) (xs : List Answer) → BreaksJuggle r Faults fault before xs after
+    → BreaksJuggle r (λ f. Unit {0}) fault before xs after
+breaks_any r Faults fault before after xs (inl temp) = inl (in_temp r.class.rule.temp temp)
   where
     in_temp : (used : Bool) → BreaksTemp r Faults fault used before xs after → BreaksTemp r (λ f. Unit {0}) fault used before xs after
     in_temp false it = it
     in_temp true (inl refused) = inl refused
     in_temp true (inr broken) = inr (tt, broken.1)
 breaks_any r Faults fault before after xs (inr rest) =
-    (xs, inr (record { first = rest.first; last = rest.last; between = rest.between; whole = rest.whole; broken = in_rounds rest.between rest.last rest.broken; answers = rest.answers }))
+    inr (record { first = rest.first; last = rest.last; between = rest.between; whole = rest.whole; broken = in_rounds rest.between rest.last rest.broken; answers = rest.answers })
   where
     in_rounds : (a : Juggling) (ys : List Answer) → BreaksRounds r Faults fault a ys after → BreaksRounds r (λ f. Unit {0}) fault a ys after
     in_rounds a ys (inl refused) = inl refused
     in_rounds a ys (inr broken) = inr (tt, broken.1)
 
+pub cut_any : (States : Stripe → Type 0) (r : Rounds) (Faults : Fault → Type 0) (fault : Fault) (before after : List ClassEvent) (xs : List Answer) → BreaksJuggle r Faults fault before xs after
+    → AreJudgedBy States xs → IsJuggleCut States r fault before after
+cut_any States r Faults fault before after xs broken judged = (xs, breaks_any r Faults fault before after xs broken, judged)
+
+-- a cut one by other states, of which less is known
+pub cut_more : (R Q : Stripe → Type 0) → ((s : Stripe) → R s → Q s) → (r : Rounds) (fault : Fault) (before after : List ClassEvent) → IsJuggleCut R r fault before after → IsJuggleCut Q r fault before after
+cut_more R Q wider r fault before after cut = (cut.0, cut.1, judged_more R Q wider cut.0 cut.2)
+
 -- the same of hits and rounds, of which a fault ended the rounds
-pub upkept_till : (config : Config) (old mid new : ClassView) (turn : Turn) (hands hands_new : HandsView) (r : Result Moves Fault) → GainsEvents old mid → GainsEvents mid new
-    → IsAdvancedBy (queue_of old.number) turn hands hands_new old.history mid.history
-    → MatchResult r (λ moves. (xs : List Answer) × IsJuggle (rounds mid turn.who turn.moment config) mid.history xs new.history moves)
-    (λ fault. IsJuggleCut (rounds mid turn.who turn.moment config) fault mid.history new.history)
-    → MatchResult r (IsUpkept config old turn hands hands_new new.history) (IsUpkeepCut config old turn hands hands_new new.history)
-upkept_till config old mid new turn hands hands_new (Ok moves) first more by made = upkept_by config old mid new turn hands hands_new (Ok moves) first more by made
-upkept_till config old mid new turn hands hands_new (Err fault) first more by made = inr (
+pub upkept_till : (config : Config) (R Q : Stripe → Type 0) → ((s : Stripe) → R s → Q s) → (old mid new : ClassView) (turn : Turn) (hands hands_new : HandsView) (r : Result Moves Fault) → GainsEvents old mid
+    → GainsEvents mid new → IsAdvancedBy (queue_of old.number) turn hands hands_new old.history mid.history
+    → MatchResult r (IsJuggledWith R (rounds mid turn.who turn.moment config) mid.history new.history)
+    (λ fault. IsJuggleCut R (rounds mid turn.who turn.moment config) fault mid.history new.history)
+    → MatchResult r (IsUpkept config Q old turn hands hands_new new.history) (IsUpkeepCut config Q old turn hands hands_new new.history)
+upkept_till config R Q wider old mid new turn hands hands_new (Ok moves) first more by made = upkept_by config R Q wider old mid new turn hands hands_new (Ok moves) first more by made
+upkept_till config R Q wider old mid new turn hands hands_new (Err fault) first more by made = inr (
   mid.history,
   by,
-  subst (λ (r : Rounds). IsJuggleCut r fault mid.history new.history) (ap (λ (v : ClassView). rounds v turn.who turn.moment config) first.same) made,
+  cut_more R Q wider (rounds old turn.who turn.moment config) fault mid.history new.history
+      (subst (λ (r : Rounds). IsJuggleCut R r fault mid.history new.history) (ap (λ (v : ClassView). rounds v turn.who turn.moment config) first.same) made),
 )
+
+-- by other states, of which less is known
+pub upkept_more : (config : Config) (R Q : Stripe → Type 0) → ((s : Stripe) → R s → Q s) → (c : ClassView) (turn : Turn) (hands hands_new : HandsView) (history_new : List ClassEvent) (r : Result Moves Fault)
+    → MatchResult r (IsUpkept config R c turn hands hands_new history_new) (IsUpkeepCut config R c turn hands hands_new history_new)
+    → MatchResult r (IsUpkept config Q c turn hands hands_new history_new) (IsUpkeepCut config Q c turn hands hands_new history_new)
+upkept_more config R Q wider c turn hands hands_new history_new (Ok moves) upkept = record {
+  advances = upkept.advances;
+  advanced = upkept.advanced;
+  own = upkept.own;
+  history_is = upkept.history_is;
+  juggled = (upkept.juggled.0, upkept.juggled.1, judged_more R Q wider upkept.juggled.0 upkept.juggled.2);
+}
+upkept_more config R Q wider c turn hands hands_new history_new (Err fault) (inl till) = inl till
+upkept_more config R Q wider c turn hands hands_new history_new (Err fault) (inr rest) =
+    inr (rest.0, rest.1, cut_more R Q wider (rounds c turn.who turn.moment config) fault rest.0 history_new rest.2)

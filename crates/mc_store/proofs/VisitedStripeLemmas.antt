@@ -1,5 +1,5 @@
 -- What a walker leaves by a gate that has one stripe at hand: visit by visit, and where its search was in vain.
-use Rattle.std.proofs.Common.{arith, ◌≤◌, ◌≡◌, ◌≢◌, ℕ, List, [], ◌∷◌, ◌++◌, Bool, true, false, Result, Ok, Err, inl, inr, refl, sym, ap, ◌∙◌, subst, append_assoc, append-nil}
+use Rattle.std.proofs.Common.{length, arith, ◌≤◌, ◌≡◌, ◌≢◌, ℕ, List, [], ◌∷◌, ◌++◌, Bool, true, false, Result, Ok, Err, inl, inr, refl, sym, ap, ◌∙◌, subst, append_assoc, append-nil}
 use Rattle.std.specs.Prelude.{◌&&◌, not, Option, Some, None, IsSome, IsSomeAnd, OnOk, OnErr, nat_lt, option_map, if◌then◌else◌}
 use Rattle.std.proofs.lemmas.{Bool.Decides.nat_tests, List.append_cancel_left}
 use Rattle.mc_item.specs.{Cache.Cache, Item.is_dead, Measure.stripe_of, Stripe.IsAlive}
@@ -17,7 +17,7 @@ use Rattle.mc_pull.specs.declared.{judge.Done.Done, judge.Judge.Judge, judge.Jud
 use Rattle.mc_pull.specs.declared.{judge.Judge.TheVariants.Walk, looking.Answer.Answer, looking.Judged.Judged}
 use Rattle.mc_pull.specs.declared.judge.Done.TheVariants as done
 use Rattle.mc_pull.specs.Growth as classes
-use Rattle.mc_pull.specs.{Judgement.done_by, Judgement.done_of, Lone.AreMadeBy, Lone.StripeGrows, Looks.IsAnswered, Looks.answer_by, Looks.events_if, Outcome.is_due}
+use Rattle.mc_pull.specs.{Judgement.done_by, Judgement.done_of, Lone.AreMadeBy, Lone.StripeGrows, Looks.IsAnswered, Looks.answer_by, Looks.events_if, Looks.judged_by, Outcome.is_due}
 use Rattle.mc_pull.specs.{Question.HasKeyOf, Question.MayJudge, Question.MayJudgeBy, Question.Question, Rounds.IsRoom, Rounds.Rounds, Rounds.rounds}
 use Rattle.mc_pull.specs.{Settled.done_class_events, Settled.cold_events, Settled.warm_events, Walker.Walker, Walker.walker_of}
 use Rattle.mc_pull.specs.Tried.{AreHad, AreTries, IsNoneNear, IsTried, IsTry}
@@ -193,7 +193,7 @@ module _ (c : ClassView) (q : Question) where
     where
       by : (key : List ℕ) → stripe_of key config.stripes ≡ record { 0 = s.site.stripe } → (o : Option Judged) → AreOfOthers key c.history (events_if c q o)
       by key of None = tt
-      by key of (Some x) = events_others key x.at x.done (λ is. apart_other config stripe (record { 0 = s.site.stripe }) key may keyed apart of)
+      by key of (Some x) = events_others key (length (judged_by x).history) x.done (λ is. apart_other config stripe (record { 0 = s.site.stripe }) key may keyed apart of)
 
   -- nothing happened
   pub same_after : (stripes : ℕ) (w : Walker) (s : Stripe) (xs xs_new : List Answer) (c_new : ClassView) → c_new ≡ with_room c c_new.room → xs_new ≡ xs → HasLooked stripes w s xs xs_new c.history c_new.history
@@ -206,36 +206,33 @@ module _ (c : ClassView) (q : Question) where
     others = λ key of alive. tt;
   }
 
-  pub looked_away : (R : Stripe → Type 0) (config_at config : Config) (w : Walker) (s : Stripe) (stripe : StripeNo) (xs xs_new : List Answer) (c_new : ClassView) (j : Option Judged) (r : Result Bool Fault) → MayJudge c q
-      → HasKeyOf stripe config c q → stripe ≢ record { 0 = s.site.stripe } → OnOk r (IsAnswered R config_at stripe q c c_new xs xs_new j)
+  pub looked_away : (R : Stripe → Type 0) (config_at config : Config) (w : Walker) (s : Stripe) (stripe : StripeNo) (xs xs_new : List Answer) (c_new : ClassView) (made : Option Done)
+      (r : Result Bool Fault) → MayJudge c q
+      → HasKeyOf stripe config c q → stripe ≢ record { 0 = s.site.stripe } → OnOk r (IsAnswered R config_at stripe q c c_new xs xs_new made)
       → OnErr r ((c_new ≡ with_room c c_new.room) × (xs_new ≡ xs)) → HasLooked config.stripes w s xs xs_new c.history c_new.history
-  looked_away R config_at config w s stripe xs xs_new c_new j (Ok had) may keyed apart answered err =
-      away config w s stripe xs xs_new c_new.history j may keyed apart answered.answers (ap (λ (v : ClassView). v.history) answered.class)
-  looked_away R config_at config w s stripe xs xs_new c_new j (Err fault) may keyed apart answered err = same_after config.stripes w s xs xs_new c_new err.0 err.1
+  looked_away R config_at config w s stripe xs xs_new c_new made (Ok had) may keyed apart answered err =
+      away config w s stripe xs xs_new c_new.history answered.judged may keyed apart answered.answers (ap (λ (v : ClassView). v.history) answered.class)
+  looked_away R config_at config w s stripe xs xs_new c_new made (Err fault) may keyed apart answered err = same_after config.stripes w s xs xs_new c_new err.0 err.1
 
   -- ---- a visit of the stripe at hand
   -- what a judgement with the stripe tells, where the stripe had only seen more
-  pub known_at : (config config_at : Config) (s learnt : Stripe) (stripe : StripeNo) (j : Option Judged) → config_at ≡ config → learnt ≡ s → stripe ≡ record { 0 = s.site.stripe } → HasKeyOf stripe config_at c q
-      → (HasKeyOf (record { 0 = learnt.site.stripe }) config c q → IsSomeAnd j (IsKnown c learnt q)) → IsSomeAnd j (IsKnown c s q)
+  pub known_at : (config config_at : Config) (s learnt : Stripe) (stripe : StripeNo) (j : Judged) → config_at ≡ config → learnt ≡ s → stripe ≡ record { 0 = s.site.stripe } → HasKeyOf stripe config_at c q
+      → (HasKeyOf (record { 0 = learnt.site.stripe }) config c q → IsKnown c learnt q j) → IsKnown c s q j
   known_at config config_at s learnt stripe j names same at keyed told =
-      subst (λ (t : Stripe). IsSomeAnd j (IsKnown c t q)) same
+      subst (λ (t : Stripe). IsKnown c t q j) same
       (told (subst (λ (k : Config). HasKeyOf (record { 0 = learnt.site.stripe }) k c q) names
       (subst (λ (n : StripeNo). HasKeyOf n config_at c q) (at ∙ sym (ap (λ (t : Stripe). record { 0 = t.site.stripe }) same)) keyed)))
 
-  pub looked_here : (config : Config) (s : Stripe) (stripe : StripeNo) (xs xs_new : List Answer) (history_new : List ClassEvent) (j : Option Judged) → IsSomeAnd j (IsKnown c s q)
-      → xs_new ≡ xs ++ answer_by stripe j ∷ [] → history_new ≡ c.history ++ events_if c q j → HasLooked config.stripes (walker_of c q.who q.moment) s xs xs_new c.history history_new
+  pub looked_here : (config : Config) (s : Stripe) (stripe : StripeNo) (xs xs_new : List Answer) (history_new : List ClassEvent) (j : Judged) → IsKnown c s q j
+      → xs_new ≡ xs ++ answer_by stripe (Some j) ∷ [] → history_new ≡ c.history ++ events_if c q (Some j) → HasLooked config.stripes (walker_of c q.who q.moment) s xs xs_new c.history history_new
   looked_here config s stripe xs xs_new history_new j known answered is = record {
-    answers = answer_by stripe j ∷ [];
+    answers = answer_by stripe (Some j) ∷ [];
     answers_are = answered;
-    had = (λ same. some_more j (IsKnown c s q) _ (λ x had. had.known) known, tt);
-    events = events_if c q j;
+    had = (λ same. known.known, tt);
+    events = events_if c q (Some j);
     history_is = is;
-    others = λ key of alive. by key alive j known;
+    others = λ key of alive. events_others key (length (judged_by j).history) j.done (λ is. reclaimed_other s key alive (sym known.done_is ∙ is));
   }
-    where
-      by : (key : List ℕ) → IsAlive ((cache_now s).items key) q.moment → (o : Option Judged) → IsSomeAnd o (IsKnown c s q) → AreOfOthers key c.history (events_if c q o)
-      by key alive None known = tt
-      by key alive (Some x) known = events_others key x.at x.done (λ is. reclaimed_other s key alive (sym known.done_is ∙ is))
 
 -- ---- a search in vain
 -- the entry of another key

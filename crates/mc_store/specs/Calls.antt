@@ -39,7 +39,7 @@ use Rattle.mc_store.specs.{
 }
 use Rattle.mc_store.specs.Locked.{setting_of}
 use Rattle.mc_store.specs.Hits.{IsAdvancedBy, IsAdvancedTill, queue_of}
-use Rattle.mc_store.specs.{Made.HasNoneMadeBy, Passes.PassView, Passes.next_who, Sides.class_told, Sides.stripe_told}
+use Rattle.mc_store.specs.{Made.HasNoneMadeBy, Reached.AreJudgedBy, Reached.IsSeenState, Passes.PassView, Passes.next_who, Sides.class_told, Sides.stripe_told}
 use Rattle.mc_store.specs.Waking.{MakesActive}
 use Rattle.mc_hits.specs.Views.{HandsView}
 use Rattle.mc_stripe.specs.declared.trying.Turn.{Turn}
@@ -111,35 +111,40 @@ pub record IsSeenGrowOf (config : Config) (class : ClassNo) (before after : Sigh
   pub now : list_at after.seen (class_lock config class) ≡ class_told history
   pub sound : ClassKeeps (setting_of config) class history (stripes_seen (list_at after.seen))
 
--- a fault ended the rounds of juggling, from one history of the class to another: whole steps, and a beginning of the next
-abbrev pub IsJuggleCut : Rounds → Fault → (before after : List ClassEvent) → Type 0
-IsJuggleCut r fault before after = (xs : List Answer) × BreaksJuggle r (λ f. Unit {0}) fault before xs after
+-- a class was juggled, from one history to another, by states of stripes of which `States` holds
+abbrev pub IsJuggledWith : (Stripe → Type 0) → Rounds → (before after : List ClassEvent) → Moves → Type 0
+IsJuggledWith States r before after moves = (answers : List Answer) × IsJuggle r before answers after moves × AreJudgedBy States answers
+
+-- the same, but a fault ended it: whole steps, and a beginning of the next
+abbrev pub IsJuggleCut : (Stripe → Type 0) → Rounds → Fault → (before after : List ClassEvent) → Type 0
+IsJuggleCut States r fault before after = (answers : List Answer) × BreaksJuggle r (λ f. Unit {0}) fault before answers after × AreJudgedBy States answers
 
 -- a class went from one history to another: first hits were taken from its queue and made their moves, then the rounds of juggling
--- made their surveys and walks
-pub record IsUpkept (config : Config) (c : ClassView) (turn : Turn) (hands hands_new : HandsView) (history_new : List ClassEvent) (moves : Moves) : Type 0 where
+-- made their surveys and walks, by states of stripes of which `States` holds
+pub record IsUpkept (config : Config) (States : Stripe → Type 0) (c : ClassView) (turn : Turn) (hands hands_new : HandsView) (history_new : List ClassEvent)
+    (moves : Moves) : Type 0 where
   pub advances : List ClassEvent
   pub advanced : IsAdvancedBy (queue_of c.number) turn hands hands_new c.history (c.history ++ advances)
   pub own : List ClassEvent
   pub history_is : history_new ≡ (c.history ++ advances) ++ own
-  pub answers : List Answer
-  pub juggle : IsJuggle (rounds c turn.who turn.moment config) (c.history ++ advances) answers ((c.history ++ advances) ++ own) moves
+  pub juggled : IsJuggledWith States (rounds c turn.who turn.moment config) (c.history ++ advances) ((c.history ++ advances) ++ own) moves
 
 -- the same, but a fault ended it: at a hit, when all hits before it had made their moves, or in the rounds after all hits
-abbrev pub IsUpkeepCut : Config → ClassView → Turn → (hands hands_new : HandsView) → List ClassEvent → Fault → Type 0
-IsUpkeepCut config c turn hands hands_new history_new fault =
+abbrev pub IsUpkeepCut : Config → (Stripe → Type 0) → ClassView → Turn → (hands hands_new : HandsView) → List ClassEvent → Fault → Type 0
+IsUpkeepCut config States c turn hands hands_new history_new fault =
     IsAdvancedTill (queue_of c.number) turn hands hands_new c.history history_new
     ⊎ ((advanced : List ClassEvent) × IsAdvancedBy (queue_of c.number) turn hands hands_new c.history advanced
-    × IsJuggleCut (rounds c turn.who turn.moment config) fault advanced history_new)
+    × IsJuggleCut States (rounds c turn.who turn.moment config) fault advanced history_new)
 
--- a class was juggled, after all that the pass had seen of it and what other calls made; its caller's history gains the call, and
--- its account only events of the class and of stripes
+-- a class was juggled, after all that the pass had seen of it and what other calls made, by states of stripes after all that it had
+-- seen of these; its caller's history gains the call, and its account only events of the class and of stripes
 pub record IsJuggledBy (config : Config) (class : ClassNo) (before after : PassView) (moment : ℕ) (moves : Moves) : Type 0 where
   pub old : ClassView
   pub history_new : List ClassEvent
   pub grew : IsSeenGrowOf config class before.sight after.sight old history_new
   pub first : HasNoneMadeBy (next_who before) old.history
-  pub upkept : IsUpkept config old (record { who = next_who before; moment = moment }) before.hands after.hands history_new moves
+  pub upkept : IsUpkept config (IsSeenState config.stripes before.sight after.sight) old (record { who = next_who before; moment = moment }) before.hands
+      after.hands history_new moves
   pub noted : after.calls ≡ before.calls ++ juggling_of class moment ∷ []
   pub account : Enters (IsOfWalk config class) before.turn after.sight before.made after.made
 
@@ -149,7 +154,8 @@ pub record IsJuggledTill (config : Config) (class : ClassNo) (before after : Pas
   pub history_new : List ClassEvent
   pub grew : IsSeenGrowOf config class before.sight after.sight old history_new
   pub first : HasNoneMadeBy (next_who before) old.history
-  pub cut : IsUpkeepCut config old (record { who = next_who before; moment = moment }) before.hands after.hands history_new fault
+  pub cut : IsUpkeepCut config (IsSeenState config.stripes before.sight after.sight) old (record { who = next_who before; moment = moment }) before.hands
+      after.hands history_new fault
   pub noted : after.calls ≡ before.calls ++ juggling_of class moment ∷ []
   pub account : Enters (IsOfWalk config class) before.turn after.sight before.made after.made
   pub full : fault ≡ HistoryFull → IsShortFor config class after.sight

@@ -22,11 +22,12 @@ pub record IsServed (board : TableId) (config : Config) (who : Who) (owner : Own
   pub by : AreBy who (drop (length owner.history) (class_told c.history))
   pub board_is : seen.board ≡ owner.board
 
--- by what was seen of one of the store's locks, its history has fewer than two places left
+-- by what was seen of one of the store's locks, its history has too few places left: a stripe's none, a class's fewer than two
 pub record HasSeenShort (config : Config) (sight : Sight) : Type 0 where
   pub lock : ℕ
   pub of : lock < locks_for config
   pub short : config.max_events < length (list_at sight.seen lock) + 2
+  pub stripe : lock < config.stripes → config.max_events ≤ length (list_at sight.seen lock)
 
 -- the store has this class, and by what was seen of it or of a stripe, its history has no place left
 pub record IsShortFor (config : Config) (class : ClassNo) (sight : Sight) : Type 0 where

@@ -1,5 +1,5 @@
 -- What a walk asks of a class's tokens, which are lent apart from the class, and what it leaves of them (own).
-use Rattle.std.specs.Prelude.{◌≡◌, ℕ, List, length, None, Option, is_some, true, IsSomeAnd}
+use Rattle.std.specs.Prelude.{◌≡◌, ℕ, List, length, None, Some}
 use Rattle.atomic_table.specs.Seated.{TableId}
 use Rattle.mc_item.specs.declared.{class_event.ClassEvent.ClassEvent, config.Config.Config, item.ClassNo.ClassNo, item.Who.Who}
 use Rattle.mc_board.specs.{Histories.Grows, Histories.with_seen, Views.OwnerView, Views.SeenView}
@@ -7,11 +7,11 @@ use Rattle.mc_board.specs.declared.rule.Sight.{Sight}
 use Rattle.mc_segment.specs.ClassState.{ClassView}
 use Rattle.mc_stripe.specs.StripeState.{Stripe}
 use Rattle.mc_pull.specs.declared.{context.Context.Context, looking.Judged.Judged, looking.Look.Look}
-use Rattle.mc_pull.specs.{Growth.GainsEvents, Looks.IsReachedIf, Looks.events_if, Lone.StripeGrows, Settled.class_with, Walker.Walker}
+use Rattle.mc_pull.specs.{Growth.GainsEvents, Looks.IsJudgedBy, Looks.events_if, Lone.StripeGrows, Settled.class_with, Walker.Walker}
 use Rattle.mc_pull.specs.Question.{HasKeyOf, IsClassOf, MayJudge, Question, question_of}
 use Rattle.mc_store.specs.{Accounts.IsOfStretch, Accounts.IsOfWalk, Accounts.StillCalls, Looked.IsKnown, Locked.HasBegun, Locked.class_lock}
 use Rattle.mc_store.specs.{Made.SearchesOwn, Made.WalksOwn}
-use Rattle.mc_store.specs.{Passes.CallerView, Reached.IsStateBetween, Reached.seen_stripes, Serving.IsServed, Sides.ClassSide, Sides.class_told}
+use Rattle.mc_store.specs.{Passes.CallerView, Reached.IsSeenState, Serving.IsServed, Sides.ClassSide, Sides.class_told}
 
 -- what was seen of all locks, with this whole history of a class
 abbrev pub with_class : Config → ClassNo → List ClassEvent → Sight → Sight
@@ -76,15 +76,14 @@ pub record MayJudgeUnder (board : TableId) (config : Config) (caller : CallerVie
   pub served : IsServed board config look.ask.who owner seen look.class.now
   pub may : MayJudge look.class.now (question_of look.ask)
   pub begun : HasBegun config stripe look.ask.who look.ask.moment
-  pub once : look.judged ≡ None
+  pub once : look.done ≡ None
 
 -- an entry was judged with its key's stripe: the class gained just the events of what was done, which follows from this state of the
 -- stripe, and if the entry has a key of the stripe, the stripe has its item
-pub record IsJudgedUnder (config : Config) (s : Stripe) (q : Question) (c c_new : ClassView) (judged : Option Judged) : Type 0 where
-  pub had : is_some judged ≡ true
-  pub class : c_new ≡ class_with c (events_if c q judged) c_new.room
-  pub reached : IsReachedIf (λ state. state ≡ s) config (record { 0 = s.site.stripe }) c q judged
-  pub known : HasKeyOf (record { 0 = s.site.stripe }) config c q → IsSomeAnd judged (IsKnown c s q)
+pub record IsJudgedUnder (config : Config) (s : Stripe) (q : Question) (c c_new : ClassView) (j : Judged) : Type 0 where
+  pub class : c_new ≡ class_with c (events_if c q (Some j)) c_new.room
+  pub reached : IsJudgedBy (λ state. state ≡ s) config (record { 0 = s.site.stripe }) c q j
+  pub known : HasKeyOf (record { 0 = s.site.stripe }) config c q → IsKnown c s q j
 
 -- what judging leaves: the class's tokens serve it as it is now and have seen no less, with the stripe as it was; and the stripe gained
 -- only the walker's events
@@ -93,4 +92,4 @@ pub record LeavesJudged (board : TableId) (config : Config) (w : Walker) (before
   pub served : IsServed board config w.who owner seen c
   pub stripe : StripeGrows w s s_new
   pub sees : Grows before seen.sight
-  pub state : IsStateBetween config.stripes (seen_stripes before) (seen_stripes seen.sight) s
+  pub state : IsSeenState config.stripes before seen.sight s

@@ -1,9 +1,9 @@
 //! Gates: how a walk under a class's lock reaches the stripes of its entries. A stripe's lock is tried, and never waited for.
 ghost use Rattle.std.specs.Prelude.{◌≡◌, ◌≢◌, ◌≤◌, ◌+◌, List, IfErr, IfOk, MatchResult, false, length, true};
-ghost use Rattle.mc_pull.specs.{Broken.BreaksRoom, Growth.GainsEvents, Growth.GainsFor, Juggle.IsJuggle, Rounds.IsRoom, Rounds.rounds_by};
+ghost use Rattle.mc_pull.specs.{Broken.BreaksRoom, Growth.GainsEvents, Growth.GainsFor, Rounds.IsRoom, Rounds.rounds_by};
 ghost use Rattle.mc_pull.specs.Walker.{walker_by};
 ghost use Rattle.mc_pull.specs.declared.looking.Answer.{Answer};
-ghost use Rattle.mc_store.specs.{Calls.IsJuggleCut, Earned.IsSearchInVain, Looked.IsOfCall, Serving.MayFailSeen};
+ghost use Rattle.mc_store.specs.{Calls.IsJuggleCut, Calls.IsJuggledWith, Earned.IsSearchInVain, Looked.IsOfCall, Reached.IsSeenState, Serving.MayFailSeen};
 ghost use Rattle.mc_store.specs.Walking.{LeavesSearch, LeavesTokens, MayTry, StillWalks, StillWalksFrom};
 
 use crate::caller::Caller;
@@ -59,8 +59,10 @@ impl<'a, N: Named> Trying<'a, N> {
         requires gate { MayTry N.board.table N.config context self.old.caller.now self.old.owner.now self.old.seen.now class.old self.old.who
             self.old.moment }
         ensures juggle { MatchResult result
-            (λ moves. (xs : List Answer) × IsJuggle (rounds_by class.old context.entry) class.old.history xs class.new.history moves)
-            (λ fault. IsJuggleCut (rounds_by class.old context.entry) fault class.old.history class.new.history) }
+            (IsJuggledWith (IsSeenState N.config.stripes self.old.seen.now.sight self.new.seen.now.sight) (rounds_by class.old context.entry)
+            class.old.history class.new.history)
+            (λ fault. IsJuggleCut (IsSeenState N.config.stripes self.old.seen.now.sight self.new.seen.now.sight) (rounds_by class.old context.entry)
+            fault class.old.history class.new.history) }
         ensures few { IfOk result (λ moves. moves.reclaimed + moves.moved ≤ 10000) }
         ensures gains { GainsFor false class.old class.new }
         ensures fault { IfErr result (MayFailSeen N.config self.new.seen.now.sight class.new) }
@@ -87,7 +89,7 @@ impl<'a, N: Named> Trying<'a, N> {
 
 impl<'a, N: Named> Gate for Trying<'a, N> {
     ghost use Rattle.std.specs.Prelude.{◌≡◌, ◌≤◌, ◌∷◌, [], length};
-    ghost use Rattle.mc_store.specs.{Locked.HasBegun, Made.WalksOwn, Reached.IsStateBetween, Reached.seen_stripes, Serving.IsServed, Serving.MayFailSeen};
+    ghost use Rattle.mc_store.specs.{Locked.HasBegun, Made.WalksOwn, Reached.GainsAnswers, Reached.IsSeenState, Serving.IsServed, Serving.MayFailSeen};
     ghost use Rattle.mc_store.specs.Walking.{StillWalksFrom};
 
     ghost answers = { λ g. g.answers.now.items };
@@ -95,7 +97,7 @@ impl<'a, N: Named> Gate for Trying<'a, N> {
     ghost serves = { λ g config who c. (config ≡ N.config) × IsServed N.board.table N.config who g.owner.now g.seen.now c
         × HasBegun N.config g.seen.now.sight g.who g.moment × (g.who.caller ≡ g.caller.now.number) };
 
-    ghost reaches = { λ g h state. IsStateBetween N.config.stripes (seen_stripes g.seen.now.sight) (seen_stripes h.seen.now.sight) state };
+    ghost reaches = { λ g h. IsSeenState N.config.stripes g.seen.now.sight h.seen.now.sight };
 
     ghost references = { λ g. g.caller.ghost_name ∷ g.owner.ghost_name ∷ g.seen.ghost_name ∷ [] };
 
@@ -105,7 +107,8 @@ impl<'a, N: Named> Gate for Trying<'a, N> {
         × WalksOwn w.who w.moment g.seen.now.sight h.seen.now.sight begun history
         × (length g.owner.now.history ≤ length h.owner.now.history)
         × StillWalksFrom N.config w.class (length g.owner.now.history) w.who.turn g.seen.now.sight h.seen.now.sight begun history g.caller.now
-        h.caller.now };
+        h.caller.now
+        × GainsAnswers N.config.stripes g.seen.now.sight h.seen.now.sight g.answers.now.items h.answers.now.items };
 
     fn visit(&mut self, stripe: StripeNo, look: &mut Look<'_>) -> Result<bool, Fault> {
         self.answers.reserve(1)?;
@@ -132,7 +135,7 @@ impl<'a, N: Named> Gate for Trying<'a, N> {
             return Ok(false);
         }
         own.learn(&store.board, &mut *self.seen);
-        judge(
+        let judged = judge(
             &store.board,
             own,
             &mut *self.caller,
@@ -142,7 +145,7 @@ impl<'a, N: Named> Gate for Trying<'a, N> {
         )?;
         self.answers.push_reserved(Answer {
             stripe,
-            judged: look.judged,
+            judged: Some(judged),
         });
         Ok(true)
     }
@@ -159,14 +162,14 @@ impl<'a, 'b, N: Named> Gate for Holding<'a, 'b, N> {
     ghost use Rattle.std.specs.Prelude.{◌≡◌, ◌≤◌, ◌∷◌, [], length};
     ghost use Rattle.mc_pull.specs.Lone.{StripeGrows};
     ghost use Rattle.mc_store.specs.{Looked.HasLooked, Looked.IsOfCall, Locked.HasBegun, Made.SearchesOwn, Walking.StillWalksFrom};
-    ghost use Rattle.mc_store.specs.{Reached.IsStateBetween, Reached.seen_stripes, Serving.IsServed, Serving.MayFailSeen};
+    ghost use Rattle.mc_store.specs.{Reached.IsSeenState, Serving.IsServed, Serving.MayFailSeen};
 
     ghost answers = { λ g. g.others.answers.now.items };
 
     ghost serves = { λ g config who c. (config ≡ N.config) × IsServed N.board.table N.config who g.others.owner.now g.others.seen.now c
         × HasBegun N.config g.others.seen.now.sight g.others.who g.others.moment × (g.others.who.caller ≡ g.others.caller.now.number) };
 
-    ghost reaches = { λ g h state. IsStateBetween N.config.stripes (seen_stripes g.others.seen.now.sight) (seen_stripes h.others.seen.now.sight) state };
+    ghost reaches = { λ g h. IsSeenState N.config.stripes g.others.seen.now.sight h.others.seen.now.sight };
 
     ghost references = { λ g. g.own.ghost_name ∷ g.others.caller.ghost_name ∷ g.others.owner.ghost_name ∷ g.others.seen.ghost_name ∷ [] };
 
@@ -189,7 +192,7 @@ impl<'a, 'b, N: Named> Gate for Holding<'a, 'b, N> {
         others.answers.reserve(1)?;
         let store = others.store;
         own.learn(&store.board, &mut *others.seen);
-        judge(
+        let judged = judge(
             &store.board,
             own,
             &mut *others.caller,
@@ -199,7 +202,7 @@ impl<'a, 'b, N: Named> Gate for Holding<'a, 'b, N> {
         )?;
         others.answers.push_reserved(Answer {
             stripe,
-            judged: look.judged,
+            judged: Some(judged),
         });
         Ok(true)
     }

@@ -1,5 +1,5 @@
 //! Judging one entry with its key's stripe, both under locks.
-ghost use Rattle.std.specs.Prelude.{◌≡◌, ◌≤◌, IfErr, MatchResult, length};
+ghost use Rattle.std.specs.Prelude.{◌≡◌, ◌≤◌, Some, IfErr, IfOk, MatchResult, length};
 ghost use Rattle.mc_segment.specs.ClassState.{with_room};
 ghost use Rattle.mc_pull.specs.{Question.question_of, Walker.walker_of};
 ghost use Rattle.mc_store.specs.Serving.{MayFailSeen};
@@ -10,9 +10,9 @@ use crate::locked::LockedStripe;
 use crate::named::Named;
 use mc_board::{Board, Owner, Seen};
 use mc_item::Fault;
-use mc_pull::Look;
+use mc_pull::{Judged, Look};
 
-// Judges the entry of a look with its key's stripe, whose lock is held. The tokens of the entry's class are lent apart from the
+// Judges the entry of a look with its key's stripe, whose lock is held, and returns what was done. The tokens of the entry's class are lent apart from the
 // class. Syncs the views of class and stripe before and after, also after a fault. The events are of the caller's call, and its
 // account gains only events of these two.
 pub(crate) fn judge<N: Named>(
@@ -22,15 +22,15 @@ pub(crate) fn judge<N: Named>(
     owner: &mut Owner,
     seen: &mut Seen,
     look: &mut Look<'_>,
-) -> Result<(), Fault>
+) -> Result<Judged, Fault>
     requires board { board.now ≡ N.board }
     requires look { MayJudgeUnder N.board.table N.config caller.old owner.old seen.old look.old stripe.old.sight }
     ensures same_reference { look.new.class.ghost_name ≡ look.old.class.ghost_name }
     ensures still { StillWalksFrom N.config look.old.class.now.number (length owner.old.history) look.old.ask.who.turn seen.old.sight seen.new.sight
         look.old.class.now.history look.new.class.now.history caller.old caller.new }
     ensures owner { length owner.old.history ≤ length owner.new.history }
-    ensures judged { MatchResult result
-        (λ done. IsJudgedUnder N.config stripe.old.stripe (question_of look.old.ask) look.old.class.now look.new.class.now look.new.judged)
+    ensures noted { IfOk result (λ judged. look.new.done ≡ Some judged.done) }
+    ensures judged { MatchResult result (IsJudgedUnder N.config stripe.old.stripe (question_of look.old.ask) look.old.class.now look.new.class.now)
         (λ fault. look.new.class.now ≡ with_room look.old.class.now look.new.class.now.room) }
     ensures left { LeavesJudged N.board.table N.config (walker_of look.old.class.now look.old.ask.who look.old.ask.moment) seen.old.sight stripe.old.stripe
         owner.new seen.new look.new.class.now stripe.new.stripe }
@@ -40,13 +40,13 @@ pub(crate) fn judge<N: Named>(
     caller.catch_up_class(board, who, look.class, owner);
     owner.tell(board, &mut stripe.side.seen);
     stripe.side.tell(board, seen);
-    let done = look.settle(&mut stripe.side.state);
+    let settled = look.settle(&mut stripe.side.state);
     look.class.law();
     stripe.side.state.history();
     caller.catch_up_stripe(board, who, &stripe.side.state, &mut stripe.side.owner);
     caller.catch_up_class(board, who, look.class, owner);
     owner.tell(board, &mut stripe.side.seen);
     stripe.side.tell(board, seen);
-    done?;
-    Ok(())
+    let judged = settled?;
+    Ok(judged)
 }

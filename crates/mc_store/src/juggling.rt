@@ -18,7 +18,8 @@ impl<N: Named> Store<N> {
     /// Juggles a class (the LRU maintainer's work), and returns how many entries it reclaimed and moved, at most 10000 in all.
     /// It waits for the class's lock, and only tries those of stripes: an entry is passed if its stripe's lock isn't free.
     /// First it takes up to 256 hits from the class's queue. It moves the entry of each from COLD to WARM, if the item is ACTIVE; the
-    /// code also asks that the item is alive. These moves aren't counted. `moment` is the time in whole seconds. The events that the call makes are of
+    /// code also asks that the item is alive. These moves aren't counted. Then the rounds judge an entry by its item, as its stripe has
+    /// it after all that the pass had seen of the stripe. `moment` is the time in whole seconds. The events that the call makes are of
     /// this class and of stripes.
     /// After a fault what happened so far stays. `HistoryFull` comes only if the history of this class or of a stripe is full, or the
     /// pass has had `max_events` turns. `NoMemory` comes if an allocation fails.
@@ -44,6 +45,7 @@ impl<N: Named> Store<N> {
         let own = &mut *guard;
         let who = pass.take_turn_in(self, &event, own)?;
         own.side.compare(&self.board, &mut pass.seen);
+        own.learn(&self.board, &mut pass.seen);
         pass.caller.tell_class(&self.board, own);
         let call = Call {
             alloc,

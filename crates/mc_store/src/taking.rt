@@ -6,7 +6,7 @@ ghost use Rattle.mc_pull.specs.{Advance.MovesIf, Question.question, Question.que
 ghost use Rattle.mc_pull.specs.declared.judge.Judge.TheVariants as judges;
 ghost use Rattle.mc_store.specs.{Accounts.IsOfWalk, Accounts.StillCalls, Callers.juggling_of, Calls.IsUpkeepCut, Calls.IsUpkept};
 ghost use Rattle.mc_store.specs.Hits.{IsAdvancedBy, IsAdvancedTill, MayUpkeep, Takes, queue_of};
-ghost use Rattle.mc_store.specs.{Locked.HasBegunAs, Serving.MayFailSeen, Walking.LeavesTokens, Walking.MayTry};
+ghost use Rattle.mc_store.specs.{Locked.HasBegunAs, Reached.IsSeenState, Serving.MayFailSeen, Walking.LeavesTokens, Walking.MayTry};
 ghost use Rattle.mc_store.specs.Walking.{StillWalks, class_sight};
 
 use crate::caller::Caller;
@@ -142,8 +142,11 @@ pub(crate) fn upkeep_under<N: Named>(
     caller: &mut Caller<N>,
 ) -> Result<Moves, Fault>
     requires upkeep { MayUpkeep N.config (tables_of N.queues) class.old call.turn hands.old caller.old }
-    ensures upkept { MatchResult result (IsUpkept N.config class.old.class call.entry.turn hands.old hands.new class.new.class.history)
-        (IsUpkeepCut N.config class.old.class call.entry.turn hands.old hands.new class.new.class.history) }
+    ensures upkept { MatchResult result
+        (IsUpkept N.config (IsSeenState N.config.stripes class.old.sight class.new.sight) class.old.class call.entry.turn hands.old hands.new
+        class.new.class.history)
+        (IsUpkeepCut N.config (IsSeenState N.config.stripes class.old.sight class.new.sight) class.old.class call.entry.turn hands.old hands.new
+        class.new.class.history) }
     ensures taken { Takes (queue_of class.old.class.number) hands.old hands.new }
     ensures same { hands.new ≡ record hands.old { takings = hands.new.takings } }
     ensures few { IfOk result (λ moves. moves.reclaimed + moves.moved ≤ 10000) }

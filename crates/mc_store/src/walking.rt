@@ -4,15 +4,17 @@ ghost use Rattle.mc_item.specs.Command.{key_of};
 ghost use Rattle.mc_item.specs.declared.{fault.Fault.TheVariants.HistoryFull, stripe_event.Cause.TheVariants.Expired};
 ghost use Rattle.mc_stripe.specs.{Plan.dead_link, StripeCalls.KeepsSite, StripeState.cache_now};
 ghost use Rattle.mc_pull.specs.Growth as classes;
-ghost use Rattle.mc_pull.specs.{Broken.BreaksRoom, Juggle.IsJuggle, Lone.StripeGrows, Rounds.IsRoom, Rounds.rounds, Settled.lost_event, Walker.walker_of};
+ghost use Rattle.mc_pull.specs.{Broken.BreaksRoom, Lone.StripeGrows, Rounds.IsRoom, Rounds.rounds, Settled.lost_event, Walker.walker_of};
 ghost use Rattle.mc_pull.specs.declared.looking.Answer.{Answer};
 ghost use Rattle.mc_store.specs.{
   Accounts.IsOfWalk,
   Accounts.StillCalls,
   Callers.juggling_of,
   Calls.IsJuggleCut,
+  Calls.IsJuggledWith,
   Earned.IsSearchInVain,
   Full.LacksPlaces,
+  Reached.IsSeenState,
   Serving.IsShortFor,
   Serving.MayFailSeen,
 };
@@ -133,10 +135,10 @@ pub(crate) fn juggle_under<N: Named>(
     requires begun { HasBegunAs N.config class.old.sight call.turn.who call.turn.moment (juggling_of class.old.class.number call.turn.moment) }
     requires caller { call.turn.who.caller ≡ caller.old.number }
     ensures juggle { MatchResult result
-        (λ moves. (xs : List Answer) × IsJuggle (rounds class.old.class call.entry.turn.who call.entry.turn.moment N.config) class.old.class.history xs
-        class.new.class.history moves)
-        (λ fault. IsJuggleCut (rounds class.old.class call.entry.turn.who call.entry.turn.moment N.config) fault class.old.class.history
-        class.new.class.history) }
+        (IsJuggledWith (IsSeenState N.config.stripes class.old.sight class.new.sight) (rounds class.old.class call.entry.turn.who
+        call.entry.turn.moment N.config) class.old.class.history class.new.class.history)
+        (λ fault. IsJuggleCut (IsSeenState N.config.stripes class.old.sight class.new.sight) (rounds class.old.class call.entry.turn.who
+        call.entry.turn.moment N.config) fault class.old.class.history class.new.class.history) }
     ensures few { IfOk result (λ moves. moves.reclaimed + moves.moved ≤ 10000) }
     ensures class { classes.GainsEvents class.old.class class.new.class }
     ensures still { StillCalls (IsOfWalk N.config class.old.class.number) call.entry.turn.who.turn (class_sight N.config class.old)

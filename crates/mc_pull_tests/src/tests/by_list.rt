@@ -50,10 +50,10 @@ impl<'a> Gate for ByList<'a> {
             return Ok(false);
         }
         let own = &mut *self.stripe;
-        look.settle(own)?;
+        let judged = look.settle(own)?;
         self.answers.push_reserved(Answer {
             stripe,
-            judged: look.judged,
+            judged: Some(judged),
         });
         Ok(true)
     }

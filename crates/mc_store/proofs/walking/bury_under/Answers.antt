@@ -7,6 +7,7 @@ use Rattle.mc_stripe.specs.{Plan.dead_link, StripeCalls.KeepsSite, StripeState.S
 use Rattle.mc_pull.specs.Growth as growth
 use Rattle.mc_pull.specs.{Agreeing.AgreeNow, Question.question, Refusal.MayFail, Settled.lost_event, Settled.done_stripe_events}
 use Rattle.mc_pull.specs.declared.{judge.Done.Done, judge.Judge.TheVariants.Dead}
+use Rattle.mc_pull.specs.declared.judge.Done.{Done}
 use Rattle.mc_pull.proofs.OneStripeGateLemmas.{settle_walked}
 use Rattle.mc_store.proofs.{DeadEntryLemmas.dead_listed, DeadEntryLemmas.dead_reclaimed, DeadEntryLemmas.told_dead, ShortHistoryLemmas.err_is, OwnEventLemmas.GainsFit, OwnEventLemmas.gains_settled}
 use Rattle.mc_store.proofs.{OwnEventLemmas.locked_told, CallerLemmas.command_any, CallerLemmas.command_sees, LockKeepsLemmas.grows_trans}
@@ -62,7 +63,7 @@ module _ (g : Over) (c : After-learn g) where
 
   -- what the step did to the class
   grows : growth.GainsEvents lent.state c.settle-done.new.class
-  grows = settled_grows _ _ _ _ _ c.settle-done.result c.settle-done.ensures.settled c.settle-done.ensures.err
+  grows = settled_grows (λ (d : Done). d) _ _ _ _ _ c.settle-done.result c.settle-done.ensures.settled c.settle-done.ensures.err
 
   own_last : c.learn.new.stripe ≡ c.hear.new.self
   own_last = c.learn.ensures.stripe ∙ c.hear-2.ensures.stripe
@@ -78,7 +79,7 @@ module _ (g : Over) (c : After-learn g) where
   own_kept : IsLockedStripe g.N.Named.board.table g.N.Named.config c.learn.new.stripe
   own_kept =
       let did = c.settle-done.ensures in
-      let walked = settle_walked _ _ _ _ _ did.keeps.site did.keeps.agreement c.settle-done.result did.settled did.err in
+      let walked = settle_walked _ _ _ _ _ did.keeps.site did.keeps.agreement (λ (d : Done). d) c.settle-done.result did.settled did.err in
       stripe_paired _ _ _ _ c.own.invariant c.class.invariant.held _ own.owner own.seen own_is _ lent.owner lent.seen class_is agree _ _ did.keeps.site grows c.history-2.ensures.legal c.law-2.ensures.lawful
       did.keeps.agreement did.keeps.sight _ c.catch_up_stripe.ensures.told _ c.catch_up_class.ensures.told _ _ _ _ c.hear.ensures.class c.hear.ensures.told c.hear.ensures.grows own_last c.hear-2.ensures.told
       c.hear-2.ensures.grows _ (command_any _ _ _ _ begun) walked.grows
@@ -103,7 +104,7 @@ module _ (g : Over) (c : After-learn g) where
       let turn = c.args.task.turn in
       let did = c.settle-done.ensures in
       let link = c.args.link in
-      let longer = settled_told _ _ _ _ _ c.settle-done.result did.settled did.err (stripe_told own.state.history) refl in
+      let longer = settled_told (λ (d : Done). d) _ _ _ _ _ c.settle-done.result did.settled did.err (stripe_told own.state.history) refl in
       let sight = sight_paired _ _ _ _ c.own.invariant c.class.invariant.held _ own.owner own.seen own_is _ lent.owner lent.seen class_is agree _ _ did.keeps.site grows c.history-2.ensures.legal c.law-2.ensures.lawful
       did.keeps.agreement did.keeps.sight _ c.catch_up_stripe.ensures.told _ c.catch_up_class.ensures.told _ _ _ _ c.hear.ensures.class c.hear.ensures.told c.hear.ensures.grows own_last c.hear-2.ensures.told
       c.hear-2.ensures.grows in
@@ -141,22 +142,22 @@ settle-done-requires-clause-judge g c =
 
 pub catch_up_stripe-requires-clause-behind : goal.catch_up_stripe-requires-clause-behind
 catch_up_stripe-requires-clause-behind g c =
-    settled_told _ _ _ _ _ c.settle-done.result c.settle-done.ensures.settled c.settle-done.ensures.err c.own-inside.inside.0.0.owner.history c.own-inside.invariant.0
+    settled_told (λ (d : Done). d) _ _ _ _ _ c.settle-done.result c.settle-done.ensures.settled c.settle-done.ensures.err c.own-inside.inside.0.0.owner.history c.own-inside.invariant.0
 
 pub catch_up_class-requires-clause-behind : goal.catch_up_class-requires-clause-behind
 catch_up_class-requires-clause-behind g c =
-    let grows = settled_grows _ _ _ _ _ c.settle-done.result c.settle-done.ensures.settled c.settle-done.ensures.err in
+    let grows = settled_grows (λ (d : Done). d) _ _ _ _ _ c.settle-done.result c.settle-done.ensures.settled c.settle-done.ensures.err in
     class_told_more _ _ c.class-inside.inside.0.0.owner.history grows c.class-inside.invariant.0
 
 pub catch_up_stripe-requires-clause-by : goal.catch_up_stripe-requires-clause-by
 catch_up_stripe-requires-clause-by g c =
     let did = c.settle-done.ensures in
-    let walked = settle_walked _ _ _ _ _ did.keeps.site did.keeps.agreement c.settle-done.result did.settled did.err in
+    let walked = settle_walked _ _ _ _ _ did.keeps.site did.keeps.agreement (λ (d : Done). d) c.settle-done.result did.settled did.err in
     stripe_walked_by (walker_of c.class-inside.inside.0.0.state c.args.task.turn.who c.args.task.turn.moment) c.own-inside.inside.0.0.owner.history _ _ c.own-inside.invariant.0 walked.grows
 
 pub catch_up_class-requires-clause-by : goal.catch_up_class-requires-clause-by
 catch_up_class-requires-clause-by g c =
-    class_settled_by _ _ _ _ _ c.settle-done.result c.settle-done.ensures.settled c.settle-done.ensures.err c.class-inside.inside.0.0.owner.history c.class-inside.invariant.0
+    class_settled_by (λ (d : Done). d) _ _ _ _ _ c.settle-done.result c.settle-done.ensures.settled c.settle-done.ensures.err c.class-inside.inside.0.0.owner.history c.class-inside.invariant.0
 
 pub catch_up_class-requires-clause-caller : goal.catch_up_class-requires-clause-caller
 catch_up_class-requires-clause-caller g c = c.requires.begun.1 ∙ sym (ap (λ (k : CallerView). k.number) c.catch_up_stripe.ensures.entered)

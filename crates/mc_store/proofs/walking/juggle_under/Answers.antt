@@ -2,9 +2,9 @@ use Rattle.std.proofs.Common.{rules, ◌≡◌, List, ap, ◌∙◌, subst, sym}
 use Rattle.std.specs.Prelude.{MatchResult}
 use Rattle.mc_item.specs.declared.{config.Config.Config}
 use Rattle.mc_segment.specs.ClassState.{ClassView}
-use Rattle.mc_pull.specs.{Juggle.IsJuggle, Rounds.rounds}
-use Rattle.mc_pull.specs.declared.looking.Answer.{Answer}
-use Rattle.mc_store.specs.{Callers.juggling_of, Calls.IsJuggleCut, Locked.HasBegunAs, Locked.IsLockedClass, Serving.class_side, Sides.ClassSide}
+use Rattle.mc_board.specs.declared.rule.Sight.{Sight}
+use Rattle.mc_pull.specs.Rounds.{rounds}
+use Rattle.mc_store.specs.{Callers.juggling_of, Calls.IsJuggleCut, Calls.IsJuggledWith, Reached.IsSeenState, Locked.HasBegunAs, Locked.IsLockedClass, Serving.class_side, Sides.ClassSide}
 use Rattle.mc_store.proofs.{CallerLemmas.begun_as_sees, GateLemmas.still_under, OwnEventLemmas.locked_gains, OwnEventLemmas.none_own, OwnEventLemmas.of_juggling}
 use Rattle.mc_store.proofs.OwnCallLemmas.{may_try_whole}
 use Rattle.mc_store.proofs.walking.juggle_under.Goals as goal
@@ -15,10 +15,13 @@ returns-clause-juggle g c =
     let with : c.store.inside.config ≡ g.N.Named.config = c.store.invariant.1 in
     let turn = c.args.call.turn in
     let after = c.juggle.new.class.history in
-    let P : ClassView → Config → Type 0 = λ v config. MatchResult c.juggle.result
-    (λ moves. (xs : List Answer) × IsJuggle (rounds v turn.who turn.moment config) v.history xs after moves)
-    (λ fault. IsJuggleCut (rounds v turn.who turn.moment config) fault v.history after) in
-    subst (λ (v : ClassView). P v g.N.Named.config) of (subst (P c.side.inside.state) with c.juggle.ensures.juggle)
+    let seen : c.side.inside.seen.sight ≡ c.args.class.now.sight = ap (λ (x : ClassSide). x.sight) (c.side.view_is ∙ c.class.view_is) in
+    let P : ClassView → Config → Sight → Type 0 = λ v config sight.
+    let States = IsSeenState g.N.Named.config.stripes sight c.juggle.new.self.seen.now.sight in
+    MatchResult c.juggle.result (IsJuggledWith States (rounds v turn.who turn.moment config) v.history after)
+    (λ fault. IsJuggleCut States (rounds v turn.who turn.moment config) fault v.history after) in
+    subst (P c.args.class.now.class g.N.Named.config) seen
+    (subst (λ (v : ClassView). P v g.N.Named.config c.side.inside.seen.sight) of (subst (λ (k : Config). P c.side.inside.state k c.side.inside.seen.sight) with c.juggle.ensures.juggle))
 
 pub juggle-requires : goal.juggle-requires
 juggle-requires g c =

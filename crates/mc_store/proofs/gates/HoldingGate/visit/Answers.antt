@@ -1,12 +1,13 @@
-use Rattle.std.proofs.Common.{rules, ◌≡◌, ◌∷◌, ◌++◌, [], ℕ, List, ◌∙◌, ap, length, refl, subst, sym}
+use Rattle.std.proofs.Common.{rules, ◌≡◌, ◌∷◌, ◌++◌, [], ℕ, List, Some, ◌∙◌, ap, length, refl, subst, sym}
 use Rattle.mc_item.specs.declared.{config.Config.Config, item.StripeNo.StripeNo, item.Who.Who}
 use Rattle.mc_board.specs.{Histories.Grows, Views.SeenView}
 use Rattle.mc_store.specs.{Looked.IsOfCall, Serving.IsServed, Sides.StripeSide, Walking.StillWalksFrom}
 use Rattle.mc_store.proofs.{CallerLemmas.asked_here, CallerLemmas.begun_sees, GateLemmas.grew_on, GateLemmas.no_shorter, GateLemmas.no_shorter_both, GateLemmas.still_on, GateLemmas.still_unwalked}
 use Rattle.mc_stripe.specs.StripeState.{Stripe}
 use Rattle.mc_pull.proofs.ReachedLemmas.{reached_more}
-use Rattle.mc_store.specs.Reached.{IsStateBetween, seen_stripes}
-use Rattle.mc_pull.specs.{Lone.StripeGrows, Looks.IsReachedIf, Looks.answer_by, Question.HasKeyOf, Question.question_of, Walker.walker_of}
+use Rattle.mc_store.specs.Reached.{IsSeenState}
+use Rattle.mc_store.proofs.ReachedLemmas.{answers_none}
+use Rattle.mc_pull.specs.{Lone.StripeGrows, Looks.IsJudgedBy, Looks.answer_by, Question.HasKeyOf, Question.question_of, Walker.walker_of}
 use Rattle.mc_pull.specs.declared.looking.Answer.{Answer}
 use Rattle.mc_segment.specs.ClassState.{ClassView}
 use Rattle.mc_store.proofs.VisitedStripeLemmas.{known_at, looked_away, looked_both, looked_here, same_after}
@@ -36,19 +37,22 @@ returns-clause-answer g c =
     let me = c.args.self.now.others in
     let q = question_of c.args.look.now.ask in
     let class = c.args.look.now.class.now in
-    let judged = c.judge.new.look.judged in
-    let made = c.in_ok-judge.ensures.judged in
+    let j = c.in_ok-judged.judged in
+    let made = c.in_ok-judged.ensures.judged in
     let own = c.learn.new.self.stripe in
     let state =
-    subst (λ (v : SeenView). IsStateBetween g.N.Named.config.stripes (seen_stripes v.sight) (seen_stripes c.judge.new.seen.sight) own) c.learn.ensures.same c.judge.ensures.left.state in
+    subst (λ (v : SeenView). IsSeenState g.N.Named.config.stripes v.sight c.judge.new.seen.sight own) c.learn.ensures.same c.judge.ensures.left.state in
     let seen = ap (λ (x : StripeSide). x.stripe.site.stripe) c.learn.ensures.stripe in
     let number : record { 0 = c.learn.new.self.stripe.site.stripe } ≡ c.args.stripe = ap (λ (n : ℕ). record { 0 = n }) seen ∙ sym (c.lends.ensures.own c.if-not-lends.false).0 in
     record {
+      judged = Some j;
+      made_is = c.in_ok-judged.ensures.noted;
       answers = search rules;
       class = made.class;
-      reached = reached_more (λ it. it ≡ own) _ c.args.look.now.ask.config.now c.args.stripe class q judged (λ it is. subst (IsStateBetween _ _ _) (sym is) state)
-          (subst (λ (k : Config). IsReachedIf (λ it. it ≡ own) k c.args.stripe class q judged) (sym c.requires.look.served.serves.0)
-          (subst (λ (n : StripeNo). IsReachedIf (λ it. it ≡ own) g.N.Named.config n class q judged) number made.reached));
+      reached = reached_more (λ it. it ≡ own) _ c.args.look.now.ask.config.now c.args.stripe class q (Some j)
+          (λ it is. subst (IsSeenState g.N.Named.config.stripes me.seen.now.sight c.judge.new.seen.sight) (sym is) state)
+          (subst (λ (k : Config). IsJudgedBy (λ it. it ≡ own) k c.args.stripe class q j) (sym c.requires.look.served.serves.0)
+          (subst (λ (n : StripeNo). IsJudgedBy (λ it. it ≡ own) g.N.Named.config n class q j) number made.reached));
     }
 
 pub returns-then-not-lends-clause-gate : goal.returns-then-not-lends-clause-gate
@@ -62,7 +66,14 @@ returns-then-not-lends-clause-gate g c =
     let left = made.gate in
     let start = length me.others.owner.now.history in
     let none = still_unwalked g.N.Named.config look.class.now.number start look.ask.who.turn me.others.seen.now.sight look.class.now.history me.others.caller.now in
-    let same = left.kept me.others look.class.now.history (refl, refl, walks_none look.ask.who look.ask.moment me.others.seen.now.sight look.class.now.history, no_shorter start, none) in
+    let same = left.kept me.others look.class.now.history (
+      refl,
+      refl,
+      walks_none look.ask.who look.ask.moment me.others.seen.now.sight look.class.now.history,
+      no_shorter start,
+      none,
+      answers_none g.N.Named.config.stripes me.others.seen.now.sight me.others.seen.now.sight me.others.answers.now.items me.others.answers.now.items refl,
+    ) in
     let keyed = subst (λ (k : Config). HasKeyOf c.args.stripe k look.class.now q) c.requires.look.served.serves.0 c.requires.look.key in
     record {
       holds = search rules;
@@ -74,10 +85,10 @@ returns-then-not-lends-clause-gate g c =
               (was.0.0 ∙ sym same.0, was.0.1 ∙ sym same.1),
               looked_both g.N.Named.config.stripes w _ _ _ _ _ _ _ _ was.1 kept.0
                   (looked_away look.class.now q _ look.ask.config.now g.N.Named.config w s c.args.stripe me.others.answers.now.items c.visit.new.self.answers.now.items
-                  c.visit.new.look.class.now c.visit.new.look.judged c.visit.result
+                  c.visit.new.look.class.now c.visit.new.look.done c.visit.result
                   c.requires.look.judge keyed (c.lends.ensures.other c.if-not-lends.true was.0.0 was.0.1) made.answer made.err),
             ),
-        searches_visited _ _ look.ask.config.now c.args.stripe _ _ q _ _ _ _ look.class.now c.visit.new.look.class.now c.visit.new.look.judged c.visit.result kept.2 same.2.sees made.answer made.err,
+        searches_visited _ _ look.ask.config.now c.args.stripe _ _ q _ _ _ _ look.class.now c.visit.new.look.class.now c.visit.new.look.done c.visit.result kept.2 same.2.sees made.answer made.err,
         no_shorter_both (length first.others.owner.now.history) start (length c.visit.new.self.owner.now.history) kept.3 same.3,
         still_on g.N.Named.config look.class.now.number (length first.others.owner.now.history) start look.ask.who.turn first.others.seen.now.sight me.others.seen.now.sight
             c.visit.new.self.seen.now.sight begun look.class.now.history c.visit.new.look.class.now.history first.others.caller.now me.others.caller.now c.visit.new.self.caller.now
@@ -85,8 +96,8 @@ returns-then-not-lends-clause-gate g c =
       );
     }
 
-pub returns-in_err-judge-clause-gate : goal.returns-in_err-judge-clause-gate
-returns-in_err-judge-clause-gate g c =
+pub returns-in_err-judged-clause-gate : goal.returns-in_err-judged-clause-gate
+returns-in_err-judged-clause-gate g c =
     let me = c.args.self.now in
     let look = c.args.look.now in
     let s = me.own.now.stripe in
@@ -115,9 +126,9 @@ returns-in_err-judge-clause-gate g c =
             let was = kept.1 of in (
               was.0,
               looked_both g.N.Named.config.stripes w _ _ _ _ _ _ _ _ was.1 kept.0
-                  (same_after look.class.now q g.N.Named.config.stripes w s me.others.answers.now.items c.reserve.new.self.items c.judge.new.look.class.now c.in_err-judge.ensures.judged c.reserve.ensures.items),
+                  (same_after look.class.now q g.N.Named.config.stripes w s me.others.answers.now.items c.reserve.new.self.items c.judge.new.look.class.now c.in_err-judged.ensures.judged c.reserve.ensures.items),
             ),
-        searches_failed look.ask.who look.ask.moment _ _ _ _ _ _ kept.2 sees (ap (λ (v : ClassView). v.history) c.in_err-judge.ensures.judged),
+        searches_failed look.ask.who look.ask.moment _ _ _ _ _ _ kept.2 sees (ap (λ (v : ClassView). v.history) c.in_err-judged.ensures.judged),
         no_shorter_both (length first.others.owner.now.history) (length me.others.owner.now.history) (length c.judge.new.owner.history) kept.3 c.judge.ensures.owner,
         still_on g.N.Named.config look.class.now.number (length first.others.owner.now.history) (length me.others.owner.now.history) look.ask.who.turn first.others.seen.now.sight
             me.others.seen.now.sight c.judge.new.seen.sight begun look.class.now.history c.judge.new.look.class.now.history first.others.caller.now me.others.caller.now c.judge.new.caller
@@ -134,7 +145,7 @@ returns-clause-gate g c =
     let w = walker_of look.class.now look.ask.who look.ask.moment in
     let gate = c.requires.look.served.serves in
     let left = c.judge.ensures.left in
-    let made = c.in_ok-judge.ensures.judged in
+    let made = c.in_ok-judged.ensures.judged in
     let sees = subst (λ (v : SeenView). Grows v.sight c.judge.new.seen.sight) c.learn.ensures.same left.sees in
     let still =
     subst
@@ -143,9 +154,9 @@ returns-clause-gate g c =
     c.learn.ensures.same c.judge.ensures.still in
     let learnt : c.learn.new.self.stripe ≡ s = ap (λ (x : StripeSide). x.stripe) c.learn.ensures.stripe in
     let grows : StripeGrows w s c.judge.new.stripe.stripe = subst (λ (x : Stripe). StripeGrows w x c.judge.new.stripe.stripe) learnt left.stripe in
-    let known = known_at look.class.now q g.N.Named.config look.ask.config.now s c.learn.new.self.stripe c.args.stripe c.judge.new.look.judged gate.0
+    let known = known_at look.class.now q g.N.Named.config look.ask.config.now s c.learn.new.self.stripe c.args.stripe c.in_ok-judged.judged gate.0
     learnt (c.lends.ensures.own c.if-not-lends.false).0 c.requires.look.key made.known in
-    let answered = c.push_reserved.ensures.items ∙ ap (λ (xs : List Answer). xs ++ answer_by c.args.stripe c.judge.new.look.judged ∷ []) c.reserve.ensures.items in
+    let answered = c.push_reserved.ensures.items ∙ ap (λ (xs : List Answer). xs ++ answer_by c.args.stripe (Some c.in_ok-judged.judged) ∷ []) c.reserve.ensures.items in
     record {
       holds = search rules;
       serves = (
@@ -161,9 +172,9 @@ returns-clause-gate g c =
               was.0,
               looked_both g.N.Named.config.stripes w _ _ _ _ _ _ _ _ was.1 kept.0
                   (looked_here look.class.now q g.N.Named.config s c.args.stripe me.others.answers.now.items c.push_reserved.new.self.items
-                  c.judge.new.look.class.now.history c.judge.new.look.judged known answered (ap (λ (v : ClassView). v.history) made.class)),
+                  c.judge.new.look.class.now.history c.in_ok-judged.judged known answered (ap (λ (v : ClassView). v.history) made.class)),
             ),
-        searches_judged q _ _ _ _ look.class.now c.judge.new.look.class.now c.judge.new.look.judged kept.2 sees made.class,
+        searches_judged q _ _ _ _ look.class.now c.judge.new.look.class.now (Some c.in_ok-judged.judged) kept.2 sees made.class,
         no_shorter_both (length first.others.owner.now.history) (length me.others.owner.now.history) (length c.judge.new.owner.history) kept.3 c.judge.ensures.owner,
         still_on g.N.Named.config look.class.now.number (length first.others.owner.now.history) (length me.others.owner.now.history) look.ask.who.turn first.others.seen.now.sight
             me.others.seen.now.sight c.judge.new.seen.sight begun look.class.now.history c.judge.new.look.class.now.history first.others.caller.now me.others.caller.now c.judge.new.caller

@@ -4,6 +4,7 @@ use Rattle.mc_item.specs.declared.item.Who.{Who}
 use Rattle.mc_board.specs.{Accounts.AreBy, Views.OwnerView}
 use Rattle.mc_segment.specs.ClassState.{ClassView}
 use Rattle.mc_store.specs.{Sides.class_told, Walking.with_class}
+use Rattle.mc_store.proofs.ReachedLemmas.{answers_none}
 use Rattle.mc_store.proofs.OwnCallLemmas.{served_told}
 use Rattle.mc_store.proofs.gates.Trying.advance.Goals as goal
 
@@ -22,7 +23,14 @@ catch_up_class-requires-clause-by g c =
     still_unwalked g.N.Named.config c.args.class.now.number (length c.args.self.now.owner.now.history) c.args.context.turn.who.turn c.args.self.now.seen.now.sight c.args.class.now.history
     c.args.self.now.caller.now in
     let told = no_shorter (length c.args.self.now.owner.now.history) in
-    let kept = made.gate.kept c.args.self.now c.args.class.now.history (refl, refl, none, told, still) in
+    let kept = made.gate.kept c.args.self.now c.args.class.now.history (
+      refl,
+      refl,
+      none,
+      told,
+      still,
+      answers_none g.N.Named.config.stripes c.args.self.now.seen.now.sight c.args.self.now.seen.now.sight c.args.self.now.answers.now.items c.args.self.now.answers.now.items refl,
+    ) in
     subst (λ (who : Who). AreBy who (drop (length c.advance-moved.new.gate.owner.now.history) (class_told c.advance-moved.new.class.history))) (c.requires.gate.asks ∙ sym kept.0) made.gate.serves.1.by
 
 pub returns-clause-left : goal.returns-clause-left
@@ -37,7 +45,14 @@ returns-clause-left g c =
       grows = made.gains.grows;
       served = served_told g.N.Named.board.table g.N.Named.config c.args.context.turn.who _ _ c.advance-moved.new.gate.seen.now c.advance-moved.new.class c.catch_up_class.ensures.told made.gate.serves.1;
       told = ap (λ (o : OwnerView). o.history) c.catch_up_class.ensures.told;
-      walked = (made.gate.kept c.args.self.now c.args.class.now.history (refl, refl, none, told, still)).2;
+      walked = (made.gate.kept c.args.self.now c.args.class.now.history (
+        refl,
+        refl,
+        none,
+        told,
+        still,
+        answers_none g.N.Named.config.stripes c.args.self.now.seen.now.sight c.args.self.now.seen.now.sight c.args.self.now.answers.now.items c.args.self.now.answers.now.items refl,
+      )).2;
     }
 
 pub returns-clause-still : goal.returns-clause-still
@@ -51,7 +66,14 @@ returns-clause-still g c =
     let new = c.advance-moved.new in
     let none = walks_none who c.args.context.turn.moment c.args.self.now.seen.now.sight old.history in
     let kept =
-    made.gate.kept c.args.self.now old.history (refl, refl, none, no_shorter start, still_unwalked config old.number start who.turn c.args.self.now.seen.now.sight old.history caller) in
+    made.gate.kept c.args.self.now old.history (
+      refl,
+      refl,
+      none,
+      no_shorter start,
+      still_unwalked config old.number start who.turn c.args.self.now.seen.now.sight old.history caller,
+      answers_none g.N.Named.config.stripes c.args.self.now.seen.now.sight c.args.self.now.seen.now.sight c.args.self.now.answers.now.items c.args.self.now.answers.now.items refl,
+    ) in
     still_anywhere config old.number (record { from = start; until = length new.class.history }) who.turn
     {x = with_class config old.number old.history c.args.self.now.seen.now.sight} {y = with_class config old.number new.class.history new.gate.seen.now.sight} caller _
     (still_caught_up g.N.Named.board.table config who new.gate.who new.gate.owner.now new.gate.seen.now {x = with_class config old.number old.history c.args.self.now.seen.now.sight} old new.class

@@ -1,8 +1,9 @@
-use Rattle.std.proofs.Common.{rules, ◌≡◌, ◌∙◌, ◌++◌, ◌∷◌, [], ℕ, List, None, ap, length, subst, sym}
+use Rattle.std.proofs.Common.{rules, ◌≡◌, ◌∙◌, ◌++◌, ◌∷◌, [], ℕ, List, None, Some, ap, length, subst, sym}
 use Rattle.mc_item.specs.declared.{config.Config.Config, item.StripeNo.StripeNo, item.Who.Who}
-use Rattle.mc_pull.specs.{Looks.IsReachedIf, Looks.answer_by, Question.question_of}
+use Rattle.mc_pull.specs.{Looks.IsJudgedBy, Looks.answer_by, Question.question_of}
 use Rattle.mc_pull.proofs.ReachedLemmas.{reached_more}
-use Rattle.mc_store.specs.Reached.{IsStateBetween, seen_stripes}
+use Rattle.mc_store.specs.Reached.{IsSeenState}
+use Rattle.mc_store.proofs.ReachedLemmas.{answers_both, answers_none, answers_one, answers_passed}
 use Rattle.mc_pull.specs.declared.looking.Answer.{Answer}
 use Rattle.mc_board.specs.{Histories.Grows, Views.SeenView}
 use Rattle.mc_segment.specs.ClassState.{ClassView}
@@ -32,23 +33,26 @@ pub returns-clause-answer : goal.returns-clause-answer
 returns-clause-answer g c =
     let q = question_of c.args.look.now.ask in
     let class = c.args.look.now.class.now in
-    let judged = c.judge.new.look.judged in
-    let made = c.in_ok-judge.ensures.judged in
+    let j = c.in_ok-judged.judged in
+    let made = c.in_ok-judged.ensures.judged in
     let seen = ap (λ (x : StripeSide). x.stripe.site.stripe) c.learn.ensures.stripe in
     let own = c.learn.new.self.stripe in
     let state =
-    subst (λ (v : SeenView). IsStateBetween g.N.Named.config.stripes (seen_stripes v.sight) (seen_stripes c.judge.new.seen.sight) own) c.learn.ensures.same c.judge.ensures.left.state in
+    subst (λ (v : SeenView). IsSeenState g.N.Named.config.stripes v.sight c.judge.new.seen.sight own) c.learn.ensures.same c.judge.ensures.left.state in
     let number : record { 0 = c.learn.new.self.stripe.site.stripe } ≡ c.args.stripe = ap (λ (n : ℕ). record { 0 = n }) seen ∙ sym (c.is_numbered.ensures c.if-not-is_numbered.false) in
     record {
+      judged = Some j;
+      made_is = c.in_ok-judged.ensures.noted;
       answers = search rules;
       class = made.class;
-      reached = reached_more (λ it. it ≡ own) _ c.args.look.now.ask.config.now c.args.stripe class q judged (λ it is. subst (IsStateBetween _ _ _) (sym is) state)
-          (subst (λ (k : Config). IsReachedIf (λ it. it ≡ own) k c.args.stripe class q judged) (sym c.requires.look.served.serves.0)
-          (subst (λ (n : StripeNo). IsReachedIf (λ it. it ≡ own) g.N.Named.config n class q judged) number made.reached));
+      reached = reached_more (λ it. it ≡ own) _ c.args.look.now.ask.config.now c.args.stripe class q (Some j)
+          (λ it is. subst (IsSeenState g.N.Named.config.stripes c.args.self.now.seen.now.sight c.judge.new.seen.sight) (sym is) state)
+          (subst (λ (k : Config). IsJudgedBy (λ it. it ≡ own) k c.args.stripe class q j) (sym c.requires.look.served.serves.0)
+          (subst (λ (n : StripeNo). IsJudgedBy (λ it. it ≡ own) g.N.Named.config n class q j) number made.reached));
     }
 
-pub returns-in_err-judge-clause-gate : goal.returns-in_err-judge-clause-gate
-returns-in_err-judge-clause-gate g c =
+pub returns-in_err-judged-clause-gate : goal.returns-in_err-judged-clause-gate
+returns-in_err-judged-clause-gate g c =
     let me = c.args.self.now in
     let look = c.args.look.now in
     let gate = c.requires.look.served.serves in
@@ -59,7 +63,7 @@ returns-in_err-judge-clause-gate g c =
     (λ (v : SeenView). StillWalksFrom g.N.Named.config look.class.now.number (length me.owner.now.history) look.ask.who.turn v.sight c.judge.new.seen.sight look.class.now.history
     c.judge.new.look.class.now.history me.caller.now c.judge.new.caller)
     c.learn.ensures.same c.judge.ensures.still in
-    let same = ap (λ (v : ClassView). v.history) c.in_err-judge.ensures.judged in
+    let same = ap (λ (v : ClassView). v.history) c.in_err-judged.ensures.judged in
     record {
       holds = search rules;
       serves = (
@@ -75,6 +79,8 @@ returns-in_err-judge-clause-gate g c =
         no_shorter_both (length first.owner.now.history) (length me.owner.now.history) (length c.judge.new.owner.history) kept.3 c.judge.ensures.owner,
         still_on g.N.Named.config look.class.now.number (length first.owner.now.history) (length me.owner.now.history) look.ask.who.turn first.seen.now.sight me.seen.now.sight c.judge.new.seen.sight
             begun look.class.now.history c.judge.new.look.class.now.history first.caller.now me.caller.now c.judge.new.caller kept.3 kept.4 still,
+        answers_both g.N.Named.config.stripes first.seen.now.sight me.seen.now.sight c.judge.new.seen.sight first.answers.now.items me.answers.now.items c.reserve.new.self.items kept.2.sees sees kept.5
+            (answers_none g.N.Named.config.stripes me.seen.now.sight c.judge.new.seen.sight me.answers.now.items c.reserve.new.self.items c.reserve.ensures.items),
       );
     }
 
@@ -90,7 +96,9 @@ returns-clause-gate g c =
     (λ (v : SeenView). StillWalksFrom g.N.Named.config look.class.now.number (length me.owner.now.history) look.ask.who.turn v.sight c.judge.new.seen.sight look.class.now.history
     c.judge.new.look.class.now.history me.caller.now c.judge.new.caller)
     c.learn.ensures.same c.judge.ensures.still in
-    let gains = gains_judged look.class.now c.judge.new.look.class.now (question_of look.ask) c.judge.new.look.judged c.in_ok-judge.ensures.judged.class in
+    let gains = gains_judged look.class.now c.judge.new.look.class.now (question_of look.ask) (Some c.in_ok-judged.judged) c.in_ok-judged.ensures.judged.class in
+    let state =
+    subst (λ (v : SeenView). IsSeenState g.N.Named.config.stripes v.sight c.judge.new.seen.sight c.learn.new.self.stripe) c.learn.ensures.same left.state in
     record {
       holds = search rules;
       serves = (
@@ -106,6 +114,10 @@ returns-clause-gate g c =
         no_shorter_both (length first.owner.now.history) (length me.owner.now.history) (length c.judge.new.owner.history) kept.3 c.judge.ensures.owner,
         still_on g.N.Named.config look.class.now.number (length first.owner.now.history) (length me.owner.now.history) look.ask.who.turn first.seen.now.sight me.seen.now.sight c.judge.new.seen.sight
             begun look.class.now.history c.judge.new.look.class.now.history first.caller.now me.caller.now c.judge.new.caller kept.3 kept.4 still,
+        answers_both g.N.Named.config.stripes first.seen.now.sight me.seen.now.sight c.judge.new.seen.sight first.answers.now.items me.answers.now.items c.push_reserved-2.new.self.items kept.2.sees sees kept.5
+            (answers_one g.N.Named.config.stripes me.seen.now.sight c.judge.new.seen.sight me.answers.now.items c.push_reserved-2.new.self.items c.args.stripe (Some c.in_ok-judged.judged)
+            (c.push_reserved-2.ensures.items ∙ ap (λ (xs : List Answer). xs ++ answer_by c.args.stripe (Some c.in_ok-judged.judged) ∷ []) c.reserve.ensures.items)
+            (subst (IsSeenState g.N.Named.config.stripes me.seen.now.sight c.judge.new.seen.sight) (sym c.in_ok-judged.ensures.judged.reached.1) state)),
       );
     }
 
@@ -120,3 +132,73 @@ returns-in_default-try_lock-clause-answer g c =
 pub returns-then-not-is_numbered-clause-answer : goal.returns-then-not-is_numbered-clause-answer
 returns-then-not-is_numbered-clause-answer g c =
     passed_by _ c.args.stripe _ _ _ _ _ c.requires.once (c.push_reserved-then-not-is_numbered.ensures.items ∙ ap (λ (xs : List Answer). xs ++ answer_by c.args.stripe None ∷ []) c.reserve.ensures.items)
+
+pub returns-then-is_foreign-clause-gate : goal.returns-then-is_foreign-clause-gate
+returns-then-is_foreign-clause-gate g c =
+    let me = c.args.self.now in
+    let answered = c.push_reserved.ensures.items ∙ ap (λ (xs : List Answer). xs ++ answer_by c.args.stripe None ∷ []) c.reserve.ensures.items in
+    record {
+      holds = search rules;
+      serves = c.requires.look.served.serves;
+      kept = λ first begun kept. (
+        kept.0,
+        kept.1,
+        kept.2,
+        kept.3,
+        kept.4,
+        answers_passed g.N.Named.config.stripes first.seen.now.sight me.seen.now.sight first.answers.now.items me.answers.now.items c.push_reserved.new.self.items c.args.stripe kept.2.sees kept.5 answered,
+      );
+    }
+
+pub returns-in_default-clause-gate : goal.returns-in_default-clause-gate
+returns-in_default-clause-gate g c =
+    let me = c.args.self.now in
+    let answered = c.push_reserved-in_default.ensures.items ∙ ap (λ (xs : List Answer). xs ++ answer_by c.args.stripe None ∷ []) c.reserve.ensures.items in
+    record {
+      holds = search rules;
+      serves = c.requires.look.served.serves;
+      kept = λ first begun kept. (
+        kept.0,
+        kept.1,
+        kept.2,
+        kept.3,
+        kept.4,
+        answers_passed g.N.Named.config.stripes first.seen.now.sight me.seen.now.sight first.answers.now.items me.answers.now.items c.push_reserved-in_default.new.self.items c.args.stripe kept.2.sees kept.5 answered,
+      );
+    }
+
+pub returns-in_default-try_lock-clause-gate : goal.returns-in_default-try_lock-clause-gate
+returns-in_default-try_lock-clause-gate g c =
+    let me = c.args.self.now in
+    let answered = c.push_reserved-in_default-try_lock.ensures.items ∙ ap (λ (xs : List Answer). xs ++ answer_by c.args.stripe None ∷ []) c.reserve.ensures.items in
+    record {
+      holds = search rules;
+      serves = c.requires.look.served.serves;
+      kept = λ first begun kept. (
+        kept.0,
+        kept.1,
+        kept.2,
+        kept.3,
+        kept.4,
+        answers_passed g.N.Named.config.stripes first.seen.now.sight me.seen.now.sight first.answers.now.items me.answers.now.items c.push_reserved-in_default-try_lock.new.self.items c.args.stripe
+            kept.2.sees kept.5 answered,
+      );
+    }
+
+pub returns-then-not-is_numbered-clause-gate : goal.returns-then-not-is_numbered-clause-gate
+returns-then-not-is_numbered-clause-gate g c =
+    let me = c.args.self.now in
+    let answered = c.push_reserved-then-not-is_numbered.ensures.items ∙ ap (λ (xs : List Answer). xs ++ answer_by c.args.stripe None ∷ []) c.reserve.ensures.items in
+    record {
+      holds = search rules;
+      serves = c.requires.look.served.serves;
+      kept = λ first begun kept. (
+        kept.0,
+        kept.1,
+        kept.2,
+        kept.3,
+        kept.4,
+        answers_passed g.N.Named.config.stripes first.seen.now.sight me.seen.now.sight first.answers.now.items me.answers.now.items c.push_reserved-then-not-is_numbered.new.self.items c.args.stripe
+            kept.2.sees kept.5 answered,
+      );
+    }

@@ -8,7 +8,9 @@ use Rattle.mc_evidence.specs.Seen.{stripes_seen}
 use Rattle.mc_store.specs.{Accounts.Enters, Accounts.IsOfWalk, Accounts.StillCalls, Callers.juggling_of, Callers.placed_in, Callers.turns_of, Calls.IsUpkeepCut, Calls.IsUpkept, Finals.IsBehindAt, Hits.queue_of}
 use Rattle.mc_store.specs.{Locked.IsHeldClass, Made.HasNoneMadeBy, Passes.CallerView, Passes.PassView, Passes.next_who, Sides.ClassSide, Sides.class_told, Walking.class_sight}
 use Rattle.mc_store.proofs.{AccountLemmas.enters_later, CallerLemmas.on_ok_always, GrownClassLemmas.class_shared, GrownClassLemmas.juggled_so}
-use Rattle.mc_store.proofs.{GrownClassLemmas.juggled_till, PlacedLemmas.placed_same, PlacedLemmas.placed_sees, SeenStripeLemmas.called_now, TakenHitLemmas.takes_none}
+use Rattle.mc_store.proofs.{GrownClassLemmas.juggled_till, PlacedLemmas.placed_same, PlacedLemmas.placed_sees, SeenStripeLemmas.called_now, TakenHitLemmas.takes_none, TakenHitLemmas.upkept_more}
+use Rattle.mc_store.proofs.{LockKeepsLemmas.grows_trans, ReachedLemmas.state_sees}
+use Rattle.mc_store.specs.Reached.{IsSeenState}
 use Rattle.mc_store.proofs.ShortHistoryLemmas.{if_err_of, match_fault, match_ok}
 use Rattle.mc_store.proofs.store.Store.juggle.Given.{Over}
 use Rattle.mc_store.proofs.store.Store.juggle.Goals as goal
@@ -33,7 +35,7 @@ module _ (g : Over) (c : After-share g) where
 
   -- no step before the upkeep changed the class or the caller
   class_is : c.tell_class.new.class.class ≡ old_side.class
-  class_is = ap (λ (x : ClassSide). x.class) c.tell_class.ensures.class
+  class_is = ap (λ (x : ClassSide). x.class) c.tell_class.ensures.class ∙ ap (λ (x : ClassSide). x.class) c.learn.ensures.class
 
   grew : classes.GainsEvents old_side.class new_side.class
   grew = rw class_is at c.upkeep_under-moves.ensures.class
@@ -59,10 +61,26 @@ module _ (g : Over) (c : After-share g) where
   hands : c.pass.inside.hands ≡ c.args.pass.now.hands
   hands = ap (λ (p : PassView). p.hands) (c.pass.view_is ∙ c.in_ok-who.ensures.took.turn)
 
+  -- the class had learned from the pass before the upkeep
+  learnt : Grows c.args.pass.now.sight c.tell_class.new.class.sight
+  learnt =
+      let first = rw (c.compare.ensures.same.1, ap (λ (p : PassView). p.sight) (c.pass.view_is ∙ c.in_ok-who.ensures.took.turn)) at c.learn.ensures.learnt in
+      grows_trans c.args.pass.now.sight c.learn.new.self.sight c.tell_class.new.class.sight first c.tell_class.ensures.grows
+
   upkept : MatchResult c.upkeep_under-moves.result
-      (IsUpkept g.N.Named.config old_side.class (record { who = next_who c.args.pass.now; moment = c.args.moment }) c.args.pass.now.hands c.upkeep_under-moves.new.hands new_side.class.history)
-      (IsUpkeepCut g.N.Named.config old_side.class (record { who = next_who c.args.pass.now; moment = c.args.moment }) c.args.pass.now.hands c.upkeep_under-moves.new.hands new_side.class.history)
-  upkept = rw (hands, c.in_ok-who.ensures.took.who, class_is) at c.upkeep_under-moves.ensures.upkept
+      (IsUpkept g.N.Named.config (IsSeenState g.N.Named.config.stripes c.args.pass.now.sight c.share.new.seen.sight) old_side.class (record { who = next_who c.args.pass.now; moment = c.args.moment })
+      c.args.pass.now.hands c.upkeep_under-moves.new.hands new_side.class.history)
+      (IsUpkeepCut g.N.Named.config (IsSeenState g.N.Named.config.stripes c.args.pass.now.sight c.share.new.seen.sight) old_side.class (record { who = next_who c.args.pass.now; moment = c.args.moment })
+      c.args.pass.now.hands c.upkeep_under-moves.new.hands new_side.class.history)
+  upkept =
+      let stripes = g.N.Named.config.stripes in
+      let first = c.tell_class.new.class.sight in
+      let last = c.share.new.seen.sight in
+      rw (hands, c.in_ok-who.ensures.took.who, class_is) at
+      (upkept_more g.N.Named.config (IsSeenState stripes first c.upkeep_under-moves.new.class.sight) (IsSeenState stripes c.args.pass.now.sight last)
+      (state_sees stripes c.args.pass.now.sight first c.upkeep_under-moves.new.class.sight last learnt all) c.tell_class.new.class.class (record { who = c.in_ok-who.who; moment = c.args.moment })
+      c.pass.inside.hands c.upkeep_under-moves.new.hands c.upkeep_under-moves.new.class.class.history c.upkeep_under-moves.result
+      c.upkeep_under-moves.ensures.upkept)
 
   -- the call was noted, and the account has what the upkeep made
   calls : c.upkeep_under-moves.new.caller.calls ≡ c.args.pass.now.calls ++ juggling_of c.args.class c.args.moment ∷ []
@@ -106,7 +124,8 @@ upkeep_under-moves-requires g c =
     let called = called_now c.args.pass.now c.take_turn_in.new.self call c.in_ok-who.who c.args.moment
     (ap (λ (p : PassView). p.caller) turn) (ap (λ (p : PassView). p.calls) turn) c.in_ok-who.ensures.took.who c.in_ok-who.ensures.turns refl in
     let number : c.tell_class.new.class.class.number ≡ c.args.class = ap (λ (x : ClassSide). x.class.number) c.tell_class.ensures.class
-    ∙ (ap (λ (x : ClassSide). x.class.number) (c.compare.ensures.same.0 ∙ (c.own.view_is ∙ (c.in_ok-who.ensures.class ∙ c.deref_mut-own.ensures.value))) ∙ c.lock_class-guard.ensures) in
+    ∙ (ap (λ (x : ClassSide). x.class.number) c.learn.ensures.class
+    ∙ ap (λ (x : ClassSide). x.class.number) (c.compare.ensures.same.0 ∙ (c.own.view_is ∙ (c.in_ok-who.ensures.class ∙ c.deref_mut-own.ensures.value))) ∙ c.lock_class-guard.ensures) in
     let begun = c.tell_class.ensures.begun c.in_ok-who.who c.args.moment call (rw (← c.pass.view_is) at called) in
     record {
       upkeep = record {
@@ -130,7 +149,7 @@ pub invariant_of-pass : goal.invariant_of-pass
 invariant_of-pass g c =
     let i = c.pass.invariant in
     let same = c.upkeep_under-moves.ensures.same in
-    let seen = c.compare.ensures.same.1 in
+    let seen = c.learn.ensures.same ∙ c.compare.ensures.same.1 in
     let after = c.share.new.seen.sight in
     let alike = still g (goal.at.invariant_of-pass g c).After-share in
     let grows = rw seen at c.share.ensures.grows.seen in (
