@@ -21,9 +21,9 @@ pub fn crawl_lone(
     requires gate { IsServedAlone gate.old context.config.now class.old }
     requires counts { MayCount histogram.old }
     ensures crawled { OnOk result (HasCounted (λ state. state ≡ gate.old.stripe.now) (crawl_by context.entry link.number) class.old class.new
-        gate.old.answers.now.items gate.new.answers.now.items histogram.old histogram.new) }
+        gate.old.answers.now gate.new.answers.now histogram.old histogram.new) }
     ensures balanced { IsBalanced histogram.old → IsBalanced histogram.new }
-    ensures err { OnErr result ((class.new ≡ with_room class.old class.new.room) × (gate.new.answers.now.items ≡ gate.old.answers.now.items) × (histogram.new
+    ensures err { OnErr result ((class.new ≡ with_room class.old class.new.room) × (gate.new.answers.now ≡ gate.old.answers.now) × (histogram.new
         ≡ histogram.old)) }
     ensures grows { GainsEvents class.old class.new }
     ensures fault { IfErr result (MayFail class.new gate.new.stripe.now) }

@@ -17,7 +17,8 @@ use Rattle.mc_script.specs.Exchanges.{Asks, Begun, Crawls, Juggles, Limits, Scri
 use Rattle.mc_segment.specs.ClassState.{ClassView}
 use Rattle.mc_stripe.specs.{Plan.visible_row, StripeState.stripe}
 use Rattle.mc_store.specs.{Accounts.IsOfCommand, Accounts.Stretch, Calls.IsCutBy, Calls.IsJuggleCut, Calls.IsJuggledTill, Calls.IsLimitedBy, Calls.IsUpkeepCut}
-use Rattle.mc_store.specs.{Crawls.AreLinksCounted, Crawls.IsCrawledTill, Locked.class_lock, Locked.setting_of, Passes.PassView}
+use Rattle.mc_segment.specs.ClassState.{opened}
+use Rattle.mc_store.specs.{Crawls.AreLinksCounted, Crawls.IsCrawledTill, Hits.AreAdvanced, Locked.class_lock, Locked.setting_of, Passes.PassView}
 use Rattle.mc_store.specs.{Passes.next_who, Reached.IsSeenState, Reached.seen_stripes, Searches.IsSearchUpTo, Sides.class_told, Sides.stripe_told}
 use Rattle.mc_store.proofs.{EarnedRefusalLemmas.opened_again, LockKeepsLemmas.site_of_number, SyncedStepLemmas.map_length}
 use Rattle.mc_driver.specs.{Caller.EntersOnly, Caller.IsBefore, Caller.histories_seen, Cut.NotesJugglingCut, Cut.NotesSearchUpTo}
@@ -95,7 +96,10 @@ command_broke config before after command moment fault some grows earlier by =
 -- of juggling: it broke off at a hit, or in the rounds after all hits
 module _ (config : Config) (class : ClassNo) (before after : PassView) (moment : ℕ) (fault : Fault) (till : IsJuggledTill config class before after moment fault) where
   abbrev CutAt : Type 0
-  CutAt = IsUpkeepCut config (IsSeenState config.stripes before.sight after.sight) till.old (record { who = next_who before; moment = moment }) before.hands after.hands till.history_new fault
+  CutAt = IsUpkeepCut (IsSeenState config.stripes before.sight after.sight) (rounds till.old (next_who before) moment config) before.hands after.hands till.old.history till.history_new fault
+
+  rounds_are : rounds till.old (next_who before) moment config ≡ rounds (opened config class) (next_who before) moment config
+  rounds_are = ap (λ (v : ClassView). rounds v (next_who before) moment config) (opened_again config till.old class till.grew.made_with till.grew.number_is)
 
   begins : IsPrefix till.history_new ((histories_seen config after.sight).classes class)
   begins = subst (IsPrefix till.history_new) (sym (ap class_events till.grew.now ∙ class_events-map till.history_new)) (prefix_self till.history_new)
@@ -114,29 +118,23 @@ module _ (config : Config) (class : ClassNo) (before after : PassView) (moment :
         hits = at.hits;
         few = omega (arith, few);
         advanced = till.history_new;
-        moved = at.advanced;
+        moved = subst (λ (r : Rounds). AreAdvanced (IsSeenState config.stripes before.sight after.sight) r at.hits till.old.history till.history_new) rounds_are at.advanced;
         after = till.history_new;
         cut = inl refl;
         begins = begins;
       }
-  noted (inr rest) =
-      let same = opened_again config till.old class till.grew.made_with till.grew.number_is in
-      record {
-        before = till.old.history;
-        past = past;
-        first = till.first;
-        hits = rest.1.hits;
-        few = rest.1.few;
-        advanced = rest.0;
-        moved = rest.1.advanced;
-        after = till.history_new;
-        cut = inr (
-          fault,
-          subst (λ (r : Rounds). IsJuggleCut (IsSeenState config.stripes before.sight after.sight) r fault rest.0 till.history_new)
-              (ap (λ (v : ClassView). rounds v (next_who before) moment config) same) rest.2,
-        );
-        begins = begins;
-      }
+  noted (inr rest) = record {
+    before = till.old.history;
+    past = past;
+    first = till.first;
+    hits = rest.1.hits;
+    few = rest.1.few;
+    advanced = rest.0;
+    moved = subst (λ (r : Rounds). AreAdvanced (IsSeenState config.stripes before.sight after.sight) r rest.1.hits till.old.history rest.0) rounds_are rest.1.advanced;
+    after = till.history_new;
+    cut = inr (fault, subst (λ (r : Rounds). IsJuggleCut (IsSeenState config.stripes before.sight after.sight) r fault rest.0 till.history_new) rounds_are rest.2);
+    begins = begins;
+  }
 
   after_is : (cut : CutAt) → (noted cut).after ≡ till.history_new
   unfolding noted

@@ -18,6 +18,7 @@ use Rattle.mc_segment.specs.{ClassCalls.limited_event, ClassState.ClassView}
 use Rattle.mc_stripe.specs.{Plan.dead_link, Plan.visible_row, StripeState.Stripe, StripeState.stripe}
 use Rattle.mc_store.specs.{Accounts.IsOfCommand, Accounts.Stretch, Commands.IsSearch, Commands.LeadsUp, Commands.burial, Searches.IsSearchFor}
 use Rattle.mc_store.specs.{Calls.IsJuggledBy, Calls.IsJuggledWith, Calls.IsLimitedBy, Calls.IsRepliedBy, Locked.setting_of, Locked.class_lock, Sides.class_told, Sides.stripe_told, Crawls.AreLinksCounted}
+use Rattle.mc_store.specs.Hits.{AreAdvanced}
 use Rattle.mc_store.specs.{Crawls.HasReclaims, Crawls.IsCrawledBy, Earned.IsLastResort, Headline.answered_did, Passes.PassView, Passes.next_who, Reached.IsSeenState, Reached.seen_stripes}
 use Rattle.mc_store.proofs.{EarnedRefusalLemmas.opened_again, LockKeepsLemmas.site_of_number}
 use Rattle.mc_driver.specs.{Caller.EntersOnly, Caller.IsBefore, Caller.histories_seen, Noted.answered_event, Noted.stripe_with, Searched.NotesSearchFor}
@@ -124,23 +125,24 @@ juggled_between config class before after moment moves is grows earlier by =
     let upkept = by.upkept in
     let advanced = c.history ++ upkept.advances in
     let now : (histories_seen config after.sight).classes class ≡ by.history_new = ap class_events by.grew.now ∙ class_events-map by.history_new in
-    let same = opened_again config c class by.grew.made_with by.grew.number_is in
+    let rounds_are = ap (λ (v : ClassView). rounds v (next_who before) moment config) (opened_again config c class by.grew.made_with by.grew.number_is) in
+    let States = IsSeenState config.stripes before.sight after.sight in
     record {
       grew = seen_grow config before.sight after.sight grows;
       placed = is;
       stands = (
         record {
           before = c.history;
+          past = class_begins (list_at before.sight.seen (class_lock config class)) c.history by.grew.seen;
+          first = by.first;
           hits = upkept.advanced.hits;
           few = upkept.advanced.few;
           advances = upkept.advances;
-          advanced = upkept.advanced.advanced;
+          advanced = subst (λ (r : Rounds). AreAdvanced States r upkept.advanced.hits c.history advanced) rounds_are upkept.advanced.advanced;
           own = upkept.own;
           behind = [];
-          past = class_begins (list_at before.sight.seen (class_lock config class)) c.history by.grew.seen;
           split = now ∙ (upkept.history_is ∙ sym (append-nil (advanced ++ upkept.own)));
-          juggled = subst (λ (r : Rounds). IsJuggledWith (IsSeenState config.stripes before.sight after.sight) r advanced (advanced ++ upkept.own) moves)
-              (ap (λ (v : ClassView). rounds v (next_who before) moment config) same) upkept.juggled;
+          juggled = subst (λ (r : Rounds). IsJuggledWith States r advanced (advanced ++ upkept.own) moves) rounds_are upkept.juggled;
         },
         entered_only before after _ _ earlier by.account (λ lock place event at mine suits. ⊎_elim
             (λ own.

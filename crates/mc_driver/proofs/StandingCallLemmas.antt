@@ -14,7 +14,7 @@ use Rattle.mc_segment.specs.ClassCalls.{limited_event, refused_event}
 use Rattle.mc_store.specs.{Accounts.Stretch, Crawls.HasReclaims, Earned.IsLastResort, Headline.answered_did, Locked.setting_of, Sides.class_told}
 use Rattle.mc_pull.specs.Rounds.{rounds}
 use Rattle.mc_store.specs.Reached.{IsStateBetween}
-use Rattle.mc_store.proofs.{CrawledLemmas.links_wider, ReachedLemmas.judged_more, ReachedLemmas.state_wider, TakenHitLemmas.cut_more}
+use Rattle.mc_store.proofs.{CrawledLemmas.links_wider, ReachedLemmas.judged_more, ReachedLemmas.state_wider, TakenHitLemmas.advanced_more, TakenHitLemmas.cut_more}
 use Rattle.mc_item.specs.Counts.{no_counts}
 use Rattle.mc_crawl.specs.Snapshot.{links_of}
 use Rattle.mc_segment.specs.ClassState.{opened}
@@ -109,13 +109,15 @@ juggling_on : (config : Config) (earlier older newer later : ℕ → List Stripe
     → NotesJuggling config older newer seen history who class moment moves → NotesJuggling config earlier later less longer who class moment moves
 juggling_on config earlier older newer later less seen history longer who class moment moves first last begins more noted = record {
   before = noted.before;
+  past = prefix_trans less seen noted.before begins noted.past;
+  first = noted.first;
   hits = noted.hits;
   few = noted.few;
   advances = noted.advances;
-  advanced = noted.advanced;
+  advanced = advanced_more (IsStateBetween config.stripes older newer) (IsStateBetween config.stripes earlier later) (state_wider config.stripes earlier older newer later first last)
+      (rounds (opened config class) who moment config) noted.hits noted.before (noted.before ++ noted.advances) noted.advanced;
   own = noted.own;
   behind = noted.behind ++ more.0;
-  past = prefix_trans less seen noted.before begins noted.past;
   split = sym more.1 ∙ (ap (λ (h : List ClassEvent). h ++ more.0) noted.split ∙ append_assoc ((noted.before ++ noted.advances) ++ noted.own) noted.behind more.0);
   juggled = (
     noted.juggled.0,
@@ -220,7 +222,8 @@ juggling_cut_on config earlier older newer later less seen history longer who cl
   hits = noted.hits;
   few = noted.few;
   advanced = noted.advanced;
-  moved = noted.moved;
+  moved = advanced_more (IsStateBetween config.stripes older newer) (IsStateBetween config.stripes earlier later) (state_wider config.stripes earlier older newer later first last)
+      (rounds (opened config class) who moment config) noted.hits noted.before noted.advanced noted.moved;
   after = noted.after;
   cut = ⊎_elim (λ none. inl none)
       (λ broken. inr (

@@ -55,7 +55,7 @@ pub record NotesJugglingCut (config : Config) (older newer : ℕ → List Stripe
   pub hits : List Hit
   pub few : length hits ≤ 256
   pub advanced : List ClassEvent
-  pub moved : AreAdvanced who moment hits before advanced
+  pub moved : AreAdvanced (IsStateBetween config.stripes older newer) (rounds (opened config class) who moment config) hits before advanced
   pub after : List ClassEvent
   pub cut : (after ≡ advanced) ⊎ ((fault : Fault) × IsJuggleCut (IsStateBetween config.stripes older newer) (rounds (opened config class) who moment config)
       fault advanced after)

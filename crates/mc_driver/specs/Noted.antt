@@ -70,18 +70,20 @@ pub record NotesCommand (config : Config) (number : ℕ) (seen history : List St
   pub stretch : Stretch
   pub search : NotesSearchFor config (visible_row (stripe_with config number older) command moment).need classes who moment stretch
 
--- a class's history has a call's juggling with these moves, after what was seen of it, in one unbroken stretch: the moves of at most
--- 256 hits, then surveys and walks. A stripe that these reached was as it was after `older`, which was seen of it, and by `newer`
+-- a class's history has a call's juggling with these moves after what was seen of it and older events, none of them of this call, in
+-- one unbroken stretch: the moves of at most 256 hits, then surveys and walks. A stripe that these reached was as it was after
+-- `older`, which was seen of it, and by `newer`
 pub record NotesJuggling (config : Config) (older newer : ℕ → List StripeEvent) (seen history : List ClassEvent) (who : Who) (class : ClassNo) (moment : ℕ)
     (moves : Moves) : Type 0 where
   pub before : List ClassEvent
+  pub past : IsPrefix seen before
+  pub first : HasNoneMadeBy who before
   pub hits : List Hit
   pub few : length hits ≤ 256
   pub advances : List ClassEvent
-  pub advanced : AreAdvanced who moment hits before (before ++ advances)
+  pub advanced : AreAdvanced (IsStateBetween config.stripes older newer) (rounds (opened config class) who moment config) hits before (before ++ advances)
   pub own : List ClassEvent
   pub behind : List ClassEvent
-  pub past : IsPrefix seen before
   pub split : history ≡ ((before ++ advances) ++ own) ++ behind
   pub juggled : IsJuggledWith (IsStateBetween config.stripes older newer) (rounds (opened config class) who moment config) (before ++ advances)
       ((before ++ advances) ++ own) moves

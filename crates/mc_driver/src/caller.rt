@@ -42,8 +42,7 @@ impl<'a, N: Named> Calls for Caller<'a, N> {
     }
 
     fn juggle(&mut self, rt: &impl Wait, class: ClassNo, moment: u64) -> Result<Moves, Fault> {
-        self.store
-            .juggle(self.alloc, rt, &mut self.pass, class, moment)
+        self.store.juggle(rt, &mut self.pass, class, moment)
     }
 
     fn crawl(&mut self, rt: &impl Wait, class: ClassNo, moment: u64) -> Result<Histogram, Fault> {

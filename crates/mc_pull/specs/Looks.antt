@@ -1,11 +1,11 @@
 -- What a gate answers, and what its answer does to the class.
-use Rattle.std.specs.Prelude.{ℕ, ◌≡◌, ◌++◌, List, [], ◌∷◌, Option, Some, None, length}
+use Rattle.std.specs.Prelude.{◌≡◌, ◌++◌, List, [], ◌∷◌, Option, Some, None, length}
 use Rattle.mc_item.specs.declared.{class_event.ClassEvent.ClassEvent, config.Config.Config, item.StripeNo.StripeNo}
 use Rattle.mc_item.specs.Stripe.{IsLegal}
 use Rattle.mc_segment.specs.ClassState.{ClassView}
 use Rattle.mc_stripe.specs.StripeState.{Stripe, cache_now}
 use Rattle.mc_pull.specs.declared.{judge.Done.Done, looking.Answer.Answer, looking.Judged.Judged, looking.Look.Look}
-use Rattle.mc_pull.specs.Question.{IsAsked, IsStripeOf, Question, question_of}
+use Rattle.mc_pull.specs.Question.{IsAsked, IsStripeOf, Question}
 use Rattle.mc_pull.specs.{Judgement.done_of, Settled.class_with, Settled.done_class_events}
 
 -- what was done with an entry by this state of its stripe

@@ -1,12 +1,11 @@
 //! Advances the entry of an item that was hit.
-ghost use Rattle.std.specs.Prelude.{◌≡◌, false, IfOk, IfErr, IfSome, OnErr, option_copied};
+ghost use Rattle.std.specs.Prelude.{◌≡◌, ◌++◌, List, false, IfOk, IfErr, IfSome, OnErr, option_copied};
 ghost use Rattle.mc_item.specs.declared.lists.Seg.TheVariants.{Cold};
 ghost use Rattle.mc_rule.specs.Lists.{find, found, lists_of};
 ghost use Rattle.mc_segment.specs.ClassState.{with_room};
-ghost use Rattle.mc_pull.specs.{Advance.IsAdvance, Advance.MovesIf, Growth.GainsFor, Gates.IsServedBy, Gates.LeavesGate, Question.question_by};
-ghost use Rattle.mc_pull.specs.{Walker.walker_by};
+ghost use Rattle.mc_pull.specs.{Advance.IsAdvance, Growth.GainsFor, Gates.IsServedBy, Gates.LeavesGate, Rounds.rounds_by, Walker.walker_by};
 ghost use Rattle.mc_pull.specs.Advance as words;
-ghost use Rattle.mc_pull.specs.declared.judge.Judge.TheVariants as judges;
+ghost use Rattle.mc_pull.specs.declared.looking.Answer.{Answer};
 
 use crate::context::Context;
 use crate::judge::{Done, Judge};
@@ -48,9 +47,8 @@ pub fn advance<G: Gate>(
     gate: &mut G,
 ) -> Result<bool, Fault>
     requires gate { IsServedBy G.serves context.config.now context.turn.who gate.old class.old }
-    ensures advanced { IfOk result (IsAdvance (question_by context.entry number judges.Hit) context.entry.config.now class.old class.new (G.answers gate.old)
-        (G.answers gate.new)) }
-    ensures moves { IfOk result (MovesIf (question_by context.entry number judges.Hit) class.old.history class.new.history) }
+    ensures advanced { IfOk result (λ moved. (xs : List Answer) × (G.answers gate.new ≡ G.answers gate.old ++ xs) × IsAdvance (rounds_by class.old
+        context.entry) number class.old.history xs class.new.history moved) }
     ensures err { OnErr result ((class.new ≡ with_room class.old class.new.room) × (G.answers gate.new ≡ G.answers gate.old)) }
     ensures gains { GainsFor false class.old class.new }
     ensures fault { IfErr result (G.faults gate.new class.new) }

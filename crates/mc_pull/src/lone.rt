@@ -9,23 +9,25 @@ use crate::context::Context;
 use crate::juggling::juggle;
 use crate::looking::{Answer, Gate, Look};
 use crate::rounds::make_room;
+use mc_history::GhostList;
 use mc_item::{Fault, Moves, StripeNo};
 use mc_segment::ClassState;
 use mc_stripe::StripeState;
 
-/// A gate that is lent one stripe, with its number, and a list for its answers. It never reaches another stripe.
+/// A gate that is lent one stripe, with its number, and a list for its answers, which only contracts see. It never reaches another
+/// stripe.
 #[derive(Drop)]
 pub struct Lone<'a> {
     pub number: StripeNo,
     pub stripe: &'a mut StripeState,
-    pub answers: &'a mut Vec<Answer>,
+    pub answers: &'a mut GhostList<Answer>,
 }
 
 impl<'a> Gate for Lone<'a> {
     ghost use Rattle.std.specs.Prelude.{◌≡◌, ◌∷◌, []};
     ghost use Rattle.mc_pull.specs.{Lone.Serves, Lone.Walked, Refusal.MayFail};
 
-    ghost answers = { λ g. g.answers.now.items };
+    ghost answers = { λ g. g.answers.now };
 
     ghost serves = { λ g config who c. Serves g.number.0 g.stripe.now config };
 
@@ -38,9 +40,8 @@ impl<'a> Gate for Lone<'a> {
     ghost keeps = { λ w g begun h history. Walked w g.stripe.now begun h.stripe.now history };
 
     fn visit(&mut self, stripe: StripeNo, look: &mut Look<'_>) -> Result<bool, Fault> {
-        self.answers.reserve(1)?;
         if stripe.0 != self.number.0 {
-            self.answers.push_reserved(Answer {
+            self.answers.push(&Answer {
                 stripe,
                 judged: None,
             });
@@ -48,7 +49,7 @@ impl<'a> Gate for Lone<'a> {
         }
         let own = &mut *self.stripe;
         let judged = look.settle(own)?;
-        self.answers.push_reserved(Answer {
+        self.answers.push(&Answer {
             stripe,
             judged: Some(judged),
         });
@@ -61,9 +62,9 @@ impl<'a> Lone<'a> {
     /// it has gained only events of this call, and histories that agreed with it still agree.
     pub fn make_room(&mut self, context: Context<'_>, class: &mut ClassState) -> Result<bool, Fault>
         requires gate { IsServedAlone self.old context.config.now class.old }
-        ensures room { IfOk result (λ found. (xs : List Answer) × (self.new.answers.now.items ≡ self.old.answers.now.items ++ xs) × IsRoom (rounds_by
+        ensures room { IfOk result (λ found. (xs : List Answer) × (self.new.answers.now ≡ self.old.answers.now ++ xs) × IsRoom (rounds_by
             class.old context.entry) class.old.history xs class.new.history found) }
-        ensures err { OnErr result ((xs : List Answer) × (self.new.answers.now.items ≡ self.old.answers.now.items ++ xs) × BreaksRoom (rounds_by class.old
+        ensures err { OnErr result ((xs : List Answer) × (self.new.answers.now ≡ self.old.answers.now ++ xs) × BreaksRoom (rounds_by class.old
             context.entry) class.old.history xs class.new.history) }
         ensures fault { IfErr result (MayFail class.new self.new.stripe.now) }
         ensures grows { GainsEvents class.old class.new }
@@ -75,9 +76,9 @@ impl<'a> Lone<'a> {
     /// Juggles a class as `juggle` does. The contract adds the same as that of `make_room`.
     pub fn juggle(&mut self, context: Context<'_>, class: &mut ClassState) -> Result<Moves, Fault>
         requires gate { IsServedAlone self.old context.config.now class.old }
-        ensures juggle { IfOk result (λ moves. (xs : List Answer) × (self.new.answers.now.items ≡ self.old.answers.now.items ++ xs) × IsJuggle (rounds_by
+        ensures juggle { IfOk result (λ moves. (xs : List Answer) × (self.new.answers.now ≡ self.old.answers.now ++ xs) × IsJuggle (rounds_by
             class.old context.entry) class.old.history xs class.new.history moves) }
-        ensures err { IfErr result (λ fault. (xs : List Answer) × (self.new.answers.now.items ≡ self.old.answers.now.items ++ xs) × BreaksJuggle (rounds_by
+        ensures err { IfErr result (λ fault. (xs : List Answer) × (self.new.answers.now ≡ self.old.answers.now ++ xs) × BreaksJuggle (rounds_by
             class.old context.entry) (MayFail class.new self.new.stripe.now) fault class.old.history xs class.new.history) }
         ensures few { IfOk result (λ moves. moves.reclaimed + moves.moved ≤ 10000) }
         ensures fault { IfErr result (MayFail class.new self.new.stripe.now) }

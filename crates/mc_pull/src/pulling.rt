@@ -1,5 +1,5 @@
 //! Walks along a list from its tail.
-ghost use Rattle.std.specs.Prelude.{◌≡◌, ◌<◌, ◌≤◌, ◌++◌, ◌∷◌, [], ℕ, List, false, IfOk, IfErr, OnErr};
+ghost use Rattle.std.specs.Prelude.{◌≡◌, ◌<◌, ◌≤◌, ◌++◌, ℕ, List, false, IfOk, IfErr, OnErr};
 ghost use Rattle.mc_segment.specs.ClassState.{with_room};
 ghost use Rattle.mc_pull.specs.{Gates.IsServedBy, Gates.LeavesGate, Gates.MayLook, Growth.GainsEvents, Growth.GainsFor, Growth.looks_for_chunk};
 ghost use Rattle.mc_pull.specs.{Looks.IsAnswered, Pulled.sum_of, Question.MayWalk, Question.question_by, Walker.walker_by};

@@ -68,7 +68,7 @@ fn work<N: Named>(
     requires class { 0 < length N.config.sizes }
 {
     match called {
-        Called::Juggle => end_of(store.juggle(alloc, rt, pass, FIRST, LATER)),
+        Called::Juggle => end_of(store.juggle(rt, pass, FIRST, LATER)),
         Called::Crawl => end_of(store.crawl(alloc, rt, pass, FIRST, LATER)),
         Called::Limit => end_of(store.chunks(rt, pass, FIRST, 2)),
         Called::Command(_, _) => End::Other,

@@ -4,6 +4,7 @@ ghost use Rattle.mc_crawl.specs.CrawlCount.{MayCount};
 use crate::end::{End, end_by, end_of};
 use crate::marks::Marks;
 use mc_crawl::{Histogram, crawl_lone, kinds_add_up, snapshot};
+use mc_history::GhostList;
 use mc_item::{Link, Seg, StripeNo};
 use mc_pull::{Lone, Mode, advance, pull_tail};
 use mc_testing::{World, context};
@@ -17,7 +18,7 @@ pub(crate) fn pull(world: &mut World, marks: Marks) -> End {
     let mut gate = Lone {
         number: StripeNo(0),
         stripe: &mut world.stripe,
-        answers: &mut Vec::new(world.alloc),
+        answers: &mut GhostList::new(),
     };
     marks.begin();
     let pulled = pull_tail(context, &mut world.class, Seg::Cold, Mode::Evict, &mut gate);
@@ -31,7 +32,7 @@ pub(crate) fn make_room(world: &mut World, marks: Marks) -> End {
     let mut gate = Lone {
         number: StripeNo(0),
         stripe: &mut world.stripe,
-        answers: &mut Vec::new(world.alloc),
+        answers: &mut GhostList::new(),
     };
     marks.begin();
     let found = gate.make_room(context, &mut world.class);
@@ -45,7 +46,7 @@ pub(crate) fn juggle(world: &mut World, marks: Marks) -> End {
     let mut gate = Lone {
         number: StripeNo(0),
         stripe: &mut world.stripe,
-        answers: &mut Vec::new(world.alloc),
+        answers: &mut GhostList::new(),
     };
     marks.begin();
     let moves = gate.juggle(context, &mut world.class);
@@ -59,7 +60,7 @@ pub(crate) fn take_hit(world: &mut World, marks: Marks) -> End {
     let mut gate = Lone {
         number: StripeNo(0),
         stripe: &mut world.stripe,
-        answers: &mut Vec::new(world.alloc),
+        answers: &mut GhostList::new(),
     };
     marks.begin();
     let moved = advance(context, &mut world.class, 0, &mut gate);
@@ -93,7 +94,7 @@ pub(crate) fn crawl(world: &mut World, marks: Marks) -> End {
     let mut gate = Lone {
         number: StripeNo(0),
         stripe: &mut world.stripe,
-        answers: &mut Vec::new(world.alloc),
+        answers: &mut GhostList::new(),
     };
     let mut counts = empty();
     let context = context(LATER, &world.config);

@@ -11,6 +11,7 @@ use Rattle.mc_board.specs.declared.rule.Sight.{Sight}
 use Rattle.mc_board.proofs.PrefixLemmas.{prefix_self}
 use Rattle.mc_segment.specs.ClassState.{ClassView}
 use Rattle.mc_pull.specs.Growth as classes
+use Rattle.mc_pull.specs.Rounds.{rounds}
 use Rattle.mc_store.specs.{Callers.juggling_of, Passes.PassView, Passes.next_who, Crawls.IsSeenSound, Finals.IsBehindAt, Locked.IsHeldClass, Locked.class_lock}
 use Rattle.mc_store.specs.{Accounts.Enters, Accounts.IsOfWalk, Reached.IsSeenState}
 use Rattle.mc_store.specs.Calls.{IsJuggledBy, IsJuggledTill, IsSeenGrowOf, IsUnbegun, IsUpkeepCut, IsUpkept}
@@ -77,7 +78,7 @@ module _ (table : TableId) (config : Config) (class : ClassNo) (before after : S
   -- the class was juggled
   pub juggled_so : (p p_new : PassView) (moment : ℕ) (r : Result Moves Fault) → HasNoneMadeBy (next_who p) old.class.history → before ≡ p.sight → after ≡ p_new.sight
       → p_new.calls ≡ p.calls ++ juggling_of class moment ∷ [] → Enters (IsOfWalk config class) p.turn p_new.sight p.made p_new.made
-      → IfOk r (IsUpkept config (IsSeenState config.stripes p.sight p_new.sight) old.class (record { who = next_who p; moment = moment }) p.hands p_new.hands new.class.history)
+      → IfOk r (IsUpkept (IsSeenState config.stripes p.sight p_new.sight) (rounds old.class (next_who p) moment config) p.hands p_new.hands old.class.history new.class.history)
       → IfOk r (IsJuggledBy config class p p_new moment)
   juggled_so p p_new moment (Ok moves) none first last noted account made = record {
     old = old.class;
@@ -94,7 +95,7 @@ module _ (table : TableId) (config : Config) (class : ClassNo) (before after : S
   pub juggled_till : (p p_new : PassView) (moment : ℕ) (r : Result Moves Fault) → HasNoneMadeBy (next_who p) old.class.history → before ≡ p.sight → after ≡ p_new.sight
       → p_new.calls ≡ p.calls ++ juggling_of class moment ∷ [] → Enters (IsOfWalk config class) p.turn p_new.sight p.made p_new.made
       → IfErr r (MayFailSeen config new.sight new.class)
-      → IfErr r (IsUpkeepCut config (IsSeenState config.stripes p.sight p_new.sight) old.class (record { who = next_who p; moment = moment }) p.hands p_new.hands new.class.history)
+      → IfErr r (IsUpkeepCut (IsSeenState config.stripes p.sight p_new.sight) (rounds old.class (next_who p) moment config) p.hands p_new.hands old.class.history new.class.history)
       → IfErr r (λ fault. IsUnbegun config p p_new fault ⊎ IsJuggledTill config class p p_new moment fault)
   juggled_till p p_new moment (Ok moves) none first last noted account may made = tt
   juggled_till p p_new moment (Err fault) none first last noted account may made = inr (record {

@@ -30,6 +30,7 @@ pub mod FullLemmas
 pub mod JudgedEntryLemmas
 pub mod GateLemmas
 pub mod VisitedStripeLemmas
+pub mod KeptWalkLemmas
 pub mod GrownClassLemmas
 mod LaterLemmas
 mod FiguresLemmas

@@ -15,7 +15,7 @@ use Rattle.mc_pull.specs.Looks.{answer_by, judged_by}
 use Rattle.mc_pull.specs.declared.{looking.Answer.Answer, looking.Judged.Judged}
 use Rattle.mc_item.specs.declared.{class_event.ClassEvent.ClassEvent, config.Config.Config, event.Event.Event, item.ClassNo.ClassNo, item.StripeNo.StripeNo}
 use Rattle.mc_store.proofs.GateLemmas.{no_class_lock}
-use Rattle.mc_store.specs.{Locked.class_lock, Sides.class_told, Walking.with_class}
+use Rattle.mc_store.specs.{Locked.class_lock, Sides.ClassSide, Sides.class_told, Walking.class_sight, Walking.with_class}
 use Rattle.mc_store.specs.Reached.{AreJudgedBy, GainsAnswers, IsSeenState, IsStateBetween, seen_stripes}
 
 -- it was so after less, and before more
@@ -100,3 +100,17 @@ class_states config x y a b h k grows n of =
     subst (λ (l : List Event). IsPrefix (stripe_events l) (seen_stripes y n)) (list_at_other x.seen (class_lock config a) n (class_told h) (no_class_lock config a n of))
     (subst (λ (l : List Event). IsPrefix (seen_stripes (with_class config a h x) n) (stripe_events l)) (list_at_other y.seen (class_lock config b) n (class_told k) (no_class_lock config b n of))
     (seen_grows config.stripes (with_class config a h x) (with_class config b k y) grows n of))
+
+-- a state that a stripe had by what a class had seen then, by what it had seen still later
+pub side_later : (config : Config) (a b c : ClassSide) → Grows (class_sight config b) (class_sight config c) → (s : Stripe) → IsSeenState config.stripes a.sight b.sight s
+    → IsSeenState config.stripes a.sight c.sight s
+side_later config a b c grows =
+    state_wider config.stripes (seen_stripes a.sight) (seen_stripes a.sight) (seen_stripes b.sight) (seen_stripes c.sight) (λ n of. prefix_self (seen_stripes a.sight n))
+    (class_states config b.sight c.sight b.class.number c.class.number b.class.history c.class.history grows)
+
+-- a state that a stripe had after what a class had seen, after what it had seen still earlier
+pub side_earlier : (config : Config) (a b c : ClassSide) → Grows (class_sight config a) (class_sight config b) → (s : Stripe) → IsSeenState config.stripes b.sight c.sight s
+    → IsSeenState config.stripes a.sight c.sight s
+side_earlier config a b c grows =
+    state_wider config.stripes (seen_stripes a.sight) (seen_stripes b.sight) (seen_stripes c.sight) (seen_stripes c.sight)
+    (class_states config a.sight b.sight a.class.number b.class.number a.class.history b.class.history grows) (λ n of. prefix_self (seen_stripes c.sight n))

@@ -38,11 +38,10 @@ use Rattle.mc_store.specs.{
   Serving.IsShortFor,
 }
 use Rattle.mc_store.specs.Locked.{setting_of}
-use Rattle.mc_store.specs.Hits.{IsAdvancedBy, IsAdvancedTill, queue_of}
+use Rattle.mc_store.specs.Hits.{IsAdvancedBy, IsAdvancedTill}
 use Rattle.mc_store.specs.{Made.HasNoneMadeBy, Reached.AreJudgedBy, Reached.IsSeenState, Passes.PassView, Passes.next_who, Sides.class_told, Sides.stripe_told}
 use Rattle.mc_store.specs.Waking.{MakesActive}
 use Rattle.mc_hits.specs.Views.{HandsView}
-use Rattle.mc_stripe.specs.declared.trying.Turn.{Turn}
 use Rattle.mc_store.specs.declared.replied.Replied.{Replied}
 
 -- a command was answered with this reply, and its caller's history gains one event, the place of the answer; a refusal that the
@@ -119,22 +118,20 @@ IsJuggledWith States r before after moves = (answers : List Answer) × IsJuggle 
 abbrev pub IsJuggleCut : (Stripe → Type 0) → Rounds → Fault → (before after : List ClassEvent) → Type 0
 IsJuggleCut States r fault before after = (answers : List Answer) × BreaksJuggle r (λ f. Unit {0}) fault before answers after × AreJudgedBy States answers
 
--- a class went from one history to another: first hits were taken from its queue and made their moves, then the rounds of juggling
--- made their surveys and walks, by states of stripes of which `States` holds
-pub record IsUpkept (config : Config) (States : Stripe → Type 0) (c : ClassView) (turn : Turn) (hands hands_new : HandsView) (history_new : List ClassEvent)
-    (moves : Moves) : Type 0 where
+-- a class went from one history to another: first hits were taken from its queue and advanced, then the rounds of juggling made
+-- their surveys and walks, all by states of stripes of which `States` holds
+pub record IsUpkept (States : Stripe → Type 0) (r : Rounds) (hands hands_new : HandsView) (before after : List ClassEvent) (moves : Moves) : Type 0 where
   pub advances : List ClassEvent
-  pub advanced : IsAdvancedBy (queue_of c.number) turn hands hands_new c.history (c.history ++ advances)
+  pub advanced : IsAdvancedBy States r hands hands_new before (before ++ advances)
   pub own : List ClassEvent
-  pub history_is : history_new ≡ (c.history ++ advances) ++ own
-  pub juggled : IsJuggledWith States (rounds c turn.who turn.moment config) (c.history ++ advances) ((c.history ++ advances) ++ own) moves
+  pub history_is : after ≡ (before ++ advances) ++ own
+  pub juggled : IsJuggledWith States r (before ++ advances) ((before ++ advances) ++ own) moves
 
--- the same, but a fault ended it: at a hit, when all hits before it had made their moves, or in the rounds after all hits
-abbrev pub IsUpkeepCut : Config → (Stripe → Type 0) → ClassView → Turn → (hands hands_new : HandsView) → List ClassEvent → Fault → Type 0
-IsUpkeepCut config States c turn hands hands_new history_new fault =
-    IsAdvancedTill (queue_of c.number) turn hands hands_new c.history history_new
-    ⊎ ((advanced : List ClassEvent) × IsAdvancedBy (queue_of c.number) turn hands hands_new c.history advanced
-    × IsJuggleCut States (rounds c turn.who turn.moment config) fault advanced history_new)
+-- the same, but a fault ended it: at a hit, when all hits before it were advanced, or in the rounds after all hits
+abbrev pub IsUpkeepCut : (Stripe → Type 0) → Rounds → (hands hands_new : HandsView) → (before after : List ClassEvent) → Fault → Type 0
+IsUpkeepCut States r hands hands_new before after fault =
+    IsAdvancedTill States r hands hands_new before after
+    ⊎ ((advanced : List ClassEvent) × IsAdvancedBy States r hands hands_new before advanced × IsJuggleCut States r fault advanced after)
 
 -- a class was juggled, after all that the pass had seen of it and what other calls made, by states of stripes after all that it had
 -- seen of these; its caller's history gains the call, and its account only events of the class and of stripes
@@ -143,8 +140,8 @@ pub record IsJuggledBy (config : Config) (class : ClassNo) (before after : PassV
   pub history_new : List ClassEvent
   pub grew : IsSeenGrowOf config class before.sight after.sight old history_new
   pub first : HasNoneMadeBy (next_who before) old.history
-  pub upkept : IsUpkept config (IsSeenState config.stripes before.sight after.sight) old (record { who = next_who before; moment = moment }) before.hands
-      after.hands history_new moves
+  pub upkept : IsUpkept (IsSeenState config.stripes before.sight after.sight) (rounds old (next_who before) moment config) before.hands after.hands
+      old.history history_new moves
   pub noted : after.calls ≡ before.calls ++ juggling_of class moment ∷ []
   pub account : Enters (IsOfWalk config class) before.turn after.sight before.made after.made
 
@@ -154,8 +151,8 @@ pub record IsJuggledTill (config : Config) (class : ClassNo) (before after : Pas
   pub history_new : List ClassEvent
   pub grew : IsSeenGrowOf config class before.sight after.sight old history_new
   pub first : HasNoneMadeBy (next_who before) old.history
-  pub cut : IsUpkeepCut config (IsSeenState config.stripes before.sight after.sight) old (record { who = next_who before; moment = moment }) before.hands
-      after.hands history_new fault
+  pub cut : IsUpkeepCut (IsSeenState config.stripes before.sight after.sight) (rounds old (next_who before) moment config) before.hands after.hands
+      old.history history_new fault
   pub noted : after.calls ≡ before.calls ++ juggling_of class moment ∷ []
   pub account : Enters (IsOfWalk config class) before.turn after.sight before.made after.made
   pub full : fault ≡ HistoryFull → IsShortFor config class after.sight

@@ -11,10 +11,12 @@ use Rattle.mc_board.specs.declared.rule.Sight.{Sight}
 use Rattle.mc_hits.specs.Views.{HandsView, hit_of, hits_at, with_hit}
 use Rattle.mc_hits.specs.declared.rule.Hit.{Hit}
 use Rattle.mc_stripe.specs.declared.trying.Turn.{Turn}
-use Rattle.mc_pull.specs.{Advance.MovesIf, Question.question}
-use Rattle.mc_pull.specs.declared.judge.Judge.TheVariants as judges
+use Rattle.mc_stripe.specs.StripeState.{Stripe}
+use Rattle.mc_pull.specs.{Advance.IsAdvance, Rounds.Rounds}
+use Rattle.mc_pull.specs.declared.looking.Answer.{Answer}
 use Rattle.mc_store.specs.Locked.{HasBegunAs, setting_of}
-use Rattle.mc_store.specs.{Callers.juggling_of, Headline.answered_did, Passes.CallerView, Sides.ClassSide, Sides.stripe_told, Waking.MakesActive}
+use Rattle.mc_store.specs.{Callers.juggling_of, Headline.answered_did, Passes.CallerView, Reached.AreJudgedBy, Sides.ClassSide, Sides.stripe_told}
+use Rattle.mc_store.specs.Waking.{MakesActive}
 
 -- the queue of a class
 abbrev pub queue_of : ClassNo → ℕ
@@ -62,24 +64,27 @@ pub record Takes (queue : ℕ) (old new : HandsView) : Type 0 where
   pub taken : AreTaken queue old hits new
   pub few : length hits ≤ 256
 
--- by these hits a call took a class from one history to the other: each hit, in turn, moved its entry to WARM, or did nothing
-abbrev pub AreAdvanced : Who → ℕ → List Hit → List ClassEvent → List ClassEvent → Type 0
-AreAdvanced who moment [] history history_new = history_new ≡ history
-AreAdvanced who moment (hit ∷ hits) history history_new =
-    (mid : List ClassEvent) × (moved : Bool) × MovesIf (question who hit.number judges.Hit moment) history mid moved
-    × AreAdvanced who moment hits mid history_new
+-- a hit of the entry with this number took a class from one history to another, by states of stripes of which `States` holds
+abbrev pub IsAdvancedWith : (Stripe → Type 0) → Rounds → ℕ → (before after : List ClassEvent) → (moved : Bool) → Type 0
+IsAdvancedWith States r number before after moved = (answers : List Answer) × IsAdvance r number before answers after moved × AreJudgedBy States answers
+
+-- these hits, in turn, took a class from one history to another, by states of stripes of which `States` holds
+abbrev pub AreAdvanced : (Stripe → Type 0) → Rounds → List Hit → (before after : List ClassEvent) → Type 0
+AreAdvanced States r [] before after = after ≡ before
+AreAdvanced States r (hit ∷ hits) before after =
+    (mid : List ClassEvent) × (moved : Bool) × IsAdvancedWith States r hit.number before mid moved × AreAdvanced States r hits mid after
 
 -- a call took at most 256 hits from a class's queue and advanced them all: the class went from one history to the other
-pub record IsAdvancedBy (queue : ℕ) (turn : Turn) (old new : HandsView) (history history_new : List ClassEvent) : Type 0 where
+pub record IsAdvancedBy (States : Stripe → Type 0) (r : Rounds) (old new : HandsView) (before after : List ClassEvent) : Type 0 where
   pub hits : List Hit
-  pub taken : AreTaken queue old hits new
+  pub taken : AreTaken (queue_of r.class.number) old hits new
   pub few : length hits ≤ 256
-  pub advanced : AreAdvanced turn.who turn.moment hits history history_new
+  pub advanced : AreAdvanced States r hits before after
 
 -- a call was broken off by a fault at a hit that it had taken: all hits before it were advanced, and no other was taken
-pub record IsAdvancedTill (queue : ℕ) (turn : Turn) (old new : HandsView) (history history_new : List ClassEvent) : Type 0 where
+pub record IsAdvancedTill (States : Stripe → Type 0) (r : Rounds) (old new : HandsView) (before after : List ClassEvent) : Type 0 where
   pub hits : List Hit
   pub last : Hit
-  pub taken : AreTaken queue old (hits ++ last ∷ []) new
+  pub taken : AreTaken (queue_of r.class.number) old (hits ++ last ∷ []) new
   pub few : length hits < 256
-  pub advanced : AreAdvanced turn.who turn.moment hits history history_new
+  pub advanced : AreAdvanced States r hits before after

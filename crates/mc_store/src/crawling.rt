@@ -20,6 +20,7 @@ use crate::pass::Pass;
 use crate::store::Store;
 use crate::task::Call;
 use mc_crawl::{crawl_one, snapshot};
+use mc_history::GhostList;
 use mc_item::{CallEvent, ClassNo, Fault, Histogram, Link, Worked};
 use mc_pull::Context;
 use mc_segment::ClassState;
@@ -27,10 +28,9 @@ use mc_stripe::Turn;
 use std::alloc::Global;
 use std::sync::Wait;
 
-// What is fixed for the crawl of a class: the allocator, the class, and the call's turn.
+// What is fixed for the crawl of a class: the class, and the call's turn.
 #[derive(Clone, Copy)]
 struct Crawling {
-    alloc: Global,
     class: ClassNo,
     turn: Turn,
 }
@@ -95,14 +95,13 @@ fn crawl_under<N: Named>(
 {
     let store = call.store;
     let who = call.turn.who;
-    let mut answers = Vec::new(call.alloc);
     let side = &mut class.side;
     let mut gate = Trying {
         store,
         caller: &mut *caller,
         owner: &mut side.owner,
         seen: &mut side.seen,
-        answers: &mut answers,
+        answers: &mut GhostList::new(),
         who,
         moment: call.turn.moment,
     };
@@ -162,12 +161,8 @@ impl<N: Named> Store<N> {
         ensures same { pass.new ≡ record pass.old { sight = pass.new.sight; made = pass.new.made } }
         ensures full { IsErrOf result HistoryFull → IsShortFor N.config crawling.class pass.new.sight }
     {
-        let Crawling { alloc, class, turn } = crawling;
-        let call = Call {
-            alloc,
-            store: self,
-            turn,
-        };
+        let Crawling { class, turn } = crawling;
+        let call = Call { store: self, turn };
         let mut guard = self.lock_class(rt, class);
         let own = &mut *guard;
         own.side.compare(&self.board, &mut pass.seen);
@@ -208,7 +203,7 @@ impl<N: Named> Store<N> {
         let mut histogram = Histogram::new();
         for i in 0..links.len() {
             let turn = Turn { who, moment };
-            let crawling = Crawling { alloc, class, turn };
+            let crawling = Crawling { class, turn };
             self.crawl_link(rt, pass, crawling, links[i], &mut histogram)?;
         }
         Ok(histogram)

@@ -1,5 +1,6 @@
 //! Gates: how a walk under a class's lock reaches the stripes of its entries. A stripe's lock is tried, and never waited for.
-ghost use Rattle.std.specs.Prelude.{◌≡◌, ◌≢◌, ◌≤◌, ◌+◌, List, IfErr, IfOk, MatchResult, false, length, true};
+ghost use Rattle.std.specs.Prelude.{◌≡◌, ◌≢◌, ◌≤◌, ◌↔◌, ◌+◌, List, IfErr, IfOk, IfSome, MatchResult, false, length, true};
+ghost use Rattle.std.specs.Sync.Mutex.{mutex_guard_value};
 ghost use Rattle.mc_pull.specs.{Broken.BreaksRoom, Growth.GainsEvents, Growth.GainsFor, Rounds.IsRoom, Rounds.rounds_by};
 ghost use Rattle.mc_pull.specs.Walker.{walker_by};
 ghost use Rattle.mc_pull.specs.declared.looking.Answer.{Answer};
@@ -12,45 +13,55 @@ use crate::locked::LockedStripe;
 use crate::named::Named;
 use crate::store::Store;
 use mc_board::{Owner, Seen};
+use mc_history::GhostList;
 use mc_item::{Fault, Moves, StripeNo, Who};
 use mc_pull::{Answer, Context, Gate, Look, a_search_in_vain_has_tried, juggle, make_room};
 use mc_segment::ClassState;
-
-fn is_numbered<N: Named>(own: &LockedStripe<N>, number: StripeNo) -> bool
-    ensures { result ≡ true → number ≡ record { 0 = own.now.stripe.site.stripe } }
-{
-    own.side().number() == number
-}
+use std::sync::MutexGuard;
 
 /// A gate for one call (`who`, at `moment`). It tries the lock of each stripe that is asked for, and passes the entry if the lock
 /// isn't free, or if another call asks.
-/// It holds the call's caller, the owner and token of the class that is walked, and a list for its answers. The token has seen that
-/// the call began.
+/// It holds the call's caller, the owner and token of the class that is walked, and a list for its answers, which only contracts
+/// see. The token has seen that the call began.
 #[derive(Drop)]
 pub(crate) struct Trying<'a, N: Named> {
     pub(crate) store: &'a Store<N>,
     pub(crate) caller: &'a mut Caller<N>,
     pub(crate) owner: &'a mut Owner,
     pub(crate) seen: &'a mut Seen,
-    pub(crate) answers: &'a mut Vec<Answer>,
+    pub(crate) answers: &'a mut GhostList<Answer>,
     pub(crate) who: Who,
     pub(crate) moment: u64,
 }
 
 impl<'a, N: Named> Trying<'a, N> {
-    // Whether a look belongs to another call than the gate's.
-    fn is_foreign(&self, look: &Look<'_>) -> bool
-        ensures own { result ≡ false → (look.now.ask.who ≡ self.now.who) × (look.now.ask.moment ≡ self.now.moment) }
-        ensures foreign { result ≡ true → look.now.ask.who ≡ self.now.who → look.now.ask.moment ≡ self.now.moment → ⊥ }
+    // Whether a look belongs to the gate's call.
+    fn is_own(&self, look: &Look<'_>) -> bool
+        ensures { result ≡ true ↔ (look.now.ask.who ≡ self.now.who) × (look.now.ask.moment ≡ self.now.moment) }
     {
-        look.ask.who != self.who || look.ask.moment != self.moment
+        look.ask.who == self.who && look.ask.moment == self.moment
+    }
+
+    // The stripe for a look, if its lock is free and the look belongs to the gate's call.
+    fn free_stripe(
+        &self,
+        stripe: StripeNo,
+        look: &Look<'_>,
+    ) -> Option<MutexGuard<'a, LockedStripe<N>>>
+        ensures of { IfSome result (λ guard. (mutex_guard_value guard).stripe.site.stripe ≡ stripe.0) }
+        ensures own { IfSome result (λ guard. (look.now.ask.who ≡ self.now.who) × (look.now.ask.moment ≡ self.now.moment)) }
+    {
+        if !self.is_own(look) {
+            return None;
+        }
+        self.store.try_stripe(stripe)
     }
 }
 
 impl<'a, N: Named> Trying<'a, N> {
     // Juggles a class by `juggle`, whose contract is for any gate. This one adds what is true of this gate: it holds the same
-    // references, its caller's account gains only events of the class and of stripes, and the class gains only events of this call,
-    // all of which the board then has.
+    // references, it judges by states that stripes had after all that its token had seen of them, its caller's account gains only
+    // events of the class and of stripes, and the class gains only events of this call, all of which the board then has.
     pub(crate) fn juggle(
         &mut self,
         context: Context<'_>,
@@ -92,7 +103,7 @@ impl<'a, N: Named> Gate for Trying<'a, N> {
     ghost use Rattle.mc_store.specs.{Locked.HasBegun, Made.WalksOwn, Reached.GainsAnswers, Reached.IsSeenState, Serving.IsServed, Serving.MayFailSeen};
     ghost use Rattle.mc_store.specs.Walking.{StillWalksFrom};
 
-    ghost answers = { λ g. g.answers.now.items };
+    ghost answers = { λ g. g.answers.now };
 
     ghost serves = { λ g config who c. (config ≡ N.config) × IsServed N.board.table N.config who g.owner.now g.seen.now c
         × HasBegun N.config g.seen.now.sight g.who g.moment × (g.who.caller ≡ g.caller.now.number) };
@@ -108,32 +119,18 @@ impl<'a, N: Named> Gate for Trying<'a, N> {
         × (length g.owner.now.history ≤ length h.owner.now.history)
         × StillWalksFrom N.config w.class (length g.owner.now.history) w.who.turn g.seen.now.sight h.seen.now.sight begun history g.caller.now
         h.caller.now
-        × GainsAnswers N.config.stripes g.seen.now.sight h.seen.now.sight g.answers.now.items h.answers.now.items };
+        × GainsAnswers N.config.stripes g.seen.now.sight h.seen.now.sight g.answers.now h.answers.now };
 
     fn visit(&mut self, stripe: StripeNo, look: &mut Look<'_>) -> Result<bool, Fault> {
-        self.answers.reserve(1)?;
-        let passed = Answer {
-            stripe,
-            judged: None,
-        };
-        if self.is_foreign(look) {
-            self.answers.push_reserved(passed);
-            return Ok(false);
-        }
-        let store = self.store;
-        let Some(lock) = store.stripes.get(stripe.0 as usize) else {
-            self.answers.push_reserved(passed);
-            return Ok(false);
-        };
-        let Some(mut guard) = lock.try_lock() else {
-            self.answers.push_reserved(passed);
+        let Some(mut guard) = self.free_stripe(stripe, look) else {
+            self.answers.push(&Answer {
+                stripe,
+                judged: None,
+            });
             return Ok(false);
         };
         let own = &mut *guard;
-        if !is_numbered(own, stripe) {
-            self.answers.push_reserved(passed);
-            return Ok(false);
-        }
+        let store = self.store;
         own.learn(&store.board, &mut *self.seen);
         let judged = judge(
             &store.board,
@@ -143,7 +140,7 @@ impl<'a, N: Named> Gate for Trying<'a, N> {
             &mut *self.seen,
             look,
         )?;
-        self.answers.push_reserved(Answer {
+        self.answers.push(&Answer {
             stripe,
             judged: Some(judged),
         });
@@ -164,7 +161,7 @@ impl<'a, 'b, N: Named> Gate for Holding<'a, 'b, N> {
     ghost use Rattle.mc_store.specs.{Looked.HasLooked, Looked.IsOfCall, Locked.HasBegun, Made.SearchesOwn, Walking.StillWalksFrom};
     ghost use Rattle.mc_store.specs.{Reached.IsSeenState, Serving.IsServed, Serving.MayFailSeen};
 
-    ghost answers = { λ g. g.others.answers.now.items };
+    ghost answers = { λ g. g.others.answers.now };
 
     ghost serves = { λ g config who c. (config ≡ N.config) × IsServed N.board.table N.config who g.others.owner.now g.others.seen.now c
         × HasBegun N.config g.others.seen.now.sight g.others.who g.others.moment × (g.others.who.caller ≡ g.others.caller.now.number) };
@@ -177,7 +174,7 @@ impl<'a, 'b, N: Named> Gate for Holding<'a, 'b, N> {
 
     ghost keeps = { λ w g begun h history. StripeGrows w g.own.now.stripe h.own.now.stripe
         × (IsOfCall w g.others.who g.others.moment → IsOfCall w h.others.who h.others.moment
-        × HasLooked N.config.stripes w g.own.now.stripe g.others.answers.now.items h.others.answers.now.items begun history)
+        × HasLooked N.config.stripes w g.own.now.stripe g.others.answers.now h.others.answers.now begun history)
         × SearchesOwn w.who w.moment g.others.seen.now.sight h.others.seen.now.sight begun history
         × (length g.others.owner.now.history ≤ length h.others.owner.now.history)
         × StillWalksFrom N.config w.class (length g.others.owner.now.history) w.who.turn g.others.seen.now.sight h.others.seen.now.sight begun
@@ -189,7 +186,6 @@ impl<'a, 'b, N: Named> Gate for Holding<'a, 'b, N> {
         }
         let own = &mut *self.own;
         let others = &mut self.others;
-        others.answers.reserve(1)?;
         let store = others.store;
         own.learn(&store.board, &mut *others.seen);
         let judged = judge(
@@ -200,7 +196,7 @@ impl<'a, 'b, N: Named> Gate for Holding<'a, 'b, N> {
             &mut *others.seen,
             look,
         )?;
-        others.answers.push_reserved(Answer {
+        others.answers.push(&Answer {
             stripe,
             judged: Some(judged),
         });
@@ -216,7 +212,7 @@ impl<'a, 'b, N: Named> Holding<'a, 'b, N> {
         ensures other { result ≡ false → look.now.ask.who ≡ self.now.others.who → look.now.ask.moment ≡ self.now.others.moment
             → stripe ≢ record { 0 = self.now.own.now.stripe.site.stripe } }
     {
-        self.own.side().number() == stripe && !self.others.is_foreign(look)
+        self.own.side().number() == stripe && self.others.is_own(look)
     }
 
     // Makes room in a class by `make_room`, whose contract is for any gate. This one adds what is true of this gate: it holds the

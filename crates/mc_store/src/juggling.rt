@@ -11,21 +11,19 @@ use crate::taking::upkeep_under;
 use crate::task::Call;
 use mc_item::{CallEvent, ClassNo, Fault, Moves, Worked};
 use mc_stripe::Turn;
-use std::alloc::Global;
 use std::sync::Wait;
 
 impl<N: Named> Store<N> {
     /// Juggles a class (the LRU maintainer's work), and returns how many entries it reclaimed and moved, at most 10000 in all.
     /// It waits for the class's lock, and only tries those of stripes: an entry is passed if its stripe's lock isn't free.
-    /// First it takes up to 256 hits from the class's queue. It moves the entry of each from COLD to WARM, if the item is ACTIVE; the
-    /// code also asks that the item is alive. These moves aren't counted. Then the rounds judge an entry by its item, as its stripe has
-    /// it after all that the pass had seen of the stripe. `moment` is the time in whole seconds. The events that the call makes are of
-    /// this class and of stripes.
+    /// First it takes up to 256 hits from the class's queue. It moves the entry of each from COLD to WARM, if the item is ACTIVE and
+    /// alive. These moves aren't counted. Then come the rounds. Both judge an entry by its item, as its stripe has it after all that the
+    /// pass had seen of the stripe. `moment` is the time in whole seconds. The events that the call makes are of this class and of
+    /// stripes.
     /// After a fault what happened so far stays. `HistoryFull` comes only if the history of this class or of a stripe is full, or the
     /// pass has had `max_events` turns. `NoMemory` comes if an allocation fails.
     pub fn juggle(
         &self,
-        alloc: Global,
         rt: &impl Wait,
         pass: &mut Pass<N>,
         class: ClassNo,
@@ -48,7 +46,6 @@ impl<N: Named> Store<N> {
         own.learn(&self.board, &mut pass.seen);
         pass.caller.tell_class(&self.board, own);
         let call = Call {
-            alloc,
             store: self,
             turn: Turn { who, moment },
         };

@@ -1,5 +1,5 @@
 //! The shared store: stripes and slab classes, each under a lock of its own, and the queues of hits, which need no lock.
-ghost use Rattle.std.specs.Prelude.{◌≡◌, ◌<◌};
+ghost use Rattle.std.specs.Prelude.{◌≡◌, ◌<◌, IfSome};
 ghost use Rattle.std.specs.Sync.Mutex.{mutex_guard_value};
 ghost use Rattle.mc_evidence.specs.Setting.{IsClass};
 ghost use Rattle.mc_store.specs.Locked.{setting_of};
@@ -86,6 +86,18 @@ impl<N: Named> Store<N> {
             pause.snooze();
         }
         unreachable!()
+    }
+
+    // Locks a stripe, if its lock is free.
+    pub(crate) fn try_stripe(&self, stripe: StripeNo) -> Option<MutexGuard<'_, LockedStripe<N>>>
+        ensures { IfSome result (λ guard. (mutex_guard_value guard).stripe.site.stripe ≡ stripe.0) }
+    {
+        let guard = self.stripes.get(stripe.0 as usize)?.try_lock()?;
+        if guard.side().number() == stripe {
+            Some(guard)
+        } else {
+            None
+        }
     }
 
     // Locks a class. The loop runs once: `open` puts each class at the place of its number, but a lock's type can't say so.

@@ -2,10 +2,9 @@
 ghost use Rattle.std.specs.Prelude.{false, ◌≡◌, ◌+◌, ◌≤◌, IfOk, IfErr, MatchResult, OnOk, OnErr};
 ghost use Rattle.mc_hits.specs.Views.{tables_of};
 ghost use Rattle.mc_pull.specs.Growth as classes;
-ghost use Rattle.mc_pull.specs.{Advance.MovesIf, Question.question, Question.question_by};
-ghost use Rattle.mc_pull.specs.declared.judge.Judge.TheVariants as judges;
+ghost use Rattle.mc_pull.specs.Rounds.{rounds, rounds_by};
 ghost use Rattle.mc_store.specs.{Accounts.IsOfWalk, Accounts.StillCalls, Callers.juggling_of, Calls.IsUpkeepCut, Calls.IsUpkept};
-ghost use Rattle.mc_store.specs.Hits.{IsAdvancedBy, IsAdvancedTill, MayUpkeep, Takes, queue_of};
+ghost use Rattle.mc_store.specs.Hits.{IsAdvancedBy, IsAdvancedTill, IsAdvancedWith, MayUpkeep, Takes, queue_of};
 ghost use Rattle.mc_store.specs.{Locked.HasBegunAs, Reached.IsSeenState, Serving.MayFailSeen, Walking.LeavesTokens, Walking.MayTry};
 ghost use Rattle.mc_store.specs.Walking.{StillWalks, class_sight};
 
@@ -15,6 +14,7 @@ use crate::locked::LockedClass;
 use crate::named::Named;
 use crate::task::Call;
 use crate::walking::juggle_under;
+use mc_history::GhostList;
 use mc_hits::Hands;
 use mc_item::{Fault, Moves};
 use mc_pull::{Context, advance};
@@ -26,8 +26,8 @@ pub const MOST_HITS: usize = 256;
 
 impl<'a, N: Named> Trying<'a, N> {
     // Advances the entry of a hit by `advance`, whose contract is for any gate. This one adds what is true of this gate: it holds
-    // the same references, its caller's account gains only events of the class and of stripes, and the class gains only events of
-    // this call.
+    // the same references, it judges by a state that the stripe had after all that its token had seen of it, its caller's account
+    // gains only events of the class and of stripes, and the class gains only events of this call.
     fn advance(
         &mut self,
         context: Context<'_>,
@@ -36,7 +36,8 @@ impl<'a, N: Named> Trying<'a, N> {
     ) -> Result<bool, Fault>
         requires gate { MayTry N.board.table N.config context self.old.caller.now self.old.owner.now self.old.seen.now class.old self.old.who
             self.old.moment }
-        ensures moves { IfOk result (MovesIf (question_by context.entry number judges.Hit) class.old.history class.new.history) }
+        ensures advanced { IfOk result (IsAdvancedWith (IsSeenState N.config.stripes self.old.seen.now.sight self.new.seen.now.sight)
+            (rounds_by class.old context.entry) number class.old.history class.new.history) }
         ensures err { OnErr result (class.new.history ≡ class.old.history) }
         ensures gains { classes.GainsFor false class.old class.new }
         ensures fault { IfErr result (MayFailSeen N.config self.new.seen.now.sight class.new) }
@@ -70,8 +71,8 @@ fn advance_under<N: Named>(
 ) -> Result<bool, Fault>
     requires begun { HasBegunAs N.config class.old.sight call.turn.who call.turn.moment (juggling_of class.old.class.number call.turn.moment) }
     requires caller { call.turn.who.caller ≡ caller.old.number }
-    ensures moves { IfOk result (MovesIf (question call.entry.turn.who number judges.Hit call.entry.turn.moment) class.old.class.history
-        class.new.class.history) }
+    ensures advanced { IfOk result (IsAdvancedWith (IsSeenState N.config.stripes class.old.sight class.new.sight) (rounds class.old.class
+        call.entry.turn.who call.entry.turn.moment N.config) number class.old.class.history class.new.class.history) }
     ensures err { OnErr result (class.new.class.history ≡ class.old.class.history) }
     ensures class { classes.GainsEvents class.old.class class.new.class }
     ensures begun { HasBegunAs N.config class.new.sight call.entry.turn.who call.entry.turn.moment (juggling_of class.new.class.number
@@ -82,14 +83,13 @@ fn advance_under<N: Named>(
 {
     let store = call.store;
     let who = call.turn.who;
-    let mut answers = Vec::new(call.alloc);
     let side = &mut class.side;
     let mut gate = Trying {
         store,
         caller: &mut *caller,
         owner: &mut side.owner,
         seen: &mut side.seen,
-        answers: &mut answers,
+        answers: &mut GhostList::new(),
         who,
         moment: call.turn.moment,
     };
@@ -110,10 +110,10 @@ fn advance_hits<N: Named>(
     caller: &mut Caller<N>,
 ) -> Result<(), Fault>
     requires upkeep { MayUpkeep N.config (tables_of N.queues) class.old call.turn hands.old caller.old }
-    ensures advanced { OnOk result (IsAdvancedBy (queue_of class.old.class.number) call.entry.turn hands.old hands.new class.old.class.history
-        class.new.class.history) }
-    ensures cut { OnErr result (IsAdvancedTill (queue_of class.old.class.number) call.entry.turn hands.old hands.new class.old.class.history
-        class.new.class.history) }
+    ensures advanced { OnOk result (IsAdvancedBy (IsSeenState N.config.stripes class.old.sight class.new.sight) (rounds class.old.class
+        call.entry.turn.who call.entry.turn.moment N.config) hands.old hands.new class.old.class.history class.new.class.history) }
+    ensures cut { OnErr result (IsAdvancedTill (IsSeenState N.config.stripes class.old.sight class.new.sight) (rounds class.old.class
+        call.entry.turn.who call.entry.turn.moment N.config) hands.old hands.new class.old.class.history class.new.class.history) }
     ensures same { hands.new ≡ record hands.old { takings = hands.new.takings } }
     ensures class { classes.GainsEvents class.old.class class.new.class }
     ensures begun { HasBegunAs N.config class.new.sight call.entry.turn.who call.entry.turn.moment (juggling_of class.new.class.number
@@ -143,10 +143,10 @@ pub(crate) fn upkeep_under<N: Named>(
 ) -> Result<Moves, Fault>
     requires upkeep { MayUpkeep N.config (tables_of N.queues) class.old call.turn hands.old caller.old }
     ensures upkept { MatchResult result
-        (IsUpkept N.config (IsSeenState N.config.stripes class.old.sight class.new.sight) class.old.class call.entry.turn hands.old hands.new
-        class.new.class.history)
-        (IsUpkeepCut N.config (IsSeenState N.config.stripes class.old.sight class.new.sight) class.old.class call.entry.turn hands.old hands.new
-        class.new.class.history) }
+        (IsUpkept (IsSeenState N.config.stripes class.old.sight class.new.sight) (rounds class.old.class call.entry.turn.who call.entry.turn.moment
+        N.config) hands.old hands.new class.old.class.history class.new.class.history)
+        (IsUpkeepCut (IsSeenState N.config.stripes class.old.sight class.new.sight) (rounds class.old.class call.entry.turn.who
+        call.entry.turn.moment N.config) hands.old hands.new class.old.class.history class.new.class.history) }
     ensures taken { Takes (queue_of class.old.class.number) hands.old hands.new }
     ensures same { hands.new ≡ record hands.old { takings = hands.new.takings } }
     ensures few { IfOk result (λ moves. moves.reclaimed + moves.moved ≤ 10000) }

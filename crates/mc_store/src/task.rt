@@ -5,10 +5,9 @@ use mc_item::Command;
 use mc_stripe::Turn;
 use std::alloc::Global;
 
-/// What the steps of one call share: the allocator, the store, and the call's turn.
+/// What the steps of one call share: the store, and the call's turn.
 #[derive_where(Clone, Copy)]
 pub(crate) struct Call<'a, N: Named> {
-    pub(crate) alloc: Global,
     pub(crate) store: &'a Store<N>,
     pub(crate) turn: Turn,
 }

@@ -30,6 +30,7 @@ use crate::named::Named;
 use crate::pairing::meet;
 use crate::task::{Call, Task};
 use mc_board::{Owner, Seen};
+use mc_history::GhostList;
 use mc_item::{Fault, Link, Moves};
 use mc_pull::{Context, Judge, settle};
 use mc_segment::ClassState;
@@ -60,7 +61,6 @@ fn make_room_with<N: Named>(
     ensures fault { IfErr result (MayFailSeen N.config seen.new.sight class.new) }
 {
     let store = task.store;
-    let mut answers = Vec::new(task.alloc);
     let mut gate = Holding {
         own: &mut *own,
         others: Trying {
@@ -68,7 +68,7 @@ fn make_room_with<N: Named>(
             caller: &mut *caller,
             owner: &mut *owner,
             seen: &mut *seen,
-            answers: &mut answers,
+            answers: &mut GhostList::new(),
             who: task.turn.who,
             moment: task.turn.moment,
         },
@@ -147,14 +147,13 @@ pub(crate) fn juggle_under<N: Named>(
 {
     let store = call.store;
     let who = call.turn.who;
-    let mut answers = Vec::new(call.alloc);
     let side = &mut class.side;
     let mut gate = Trying {
         store,
         caller: &mut *caller,
         owner: &mut side.owner,
         seen: &mut side.seen,
-        answers: &mut answers,
+        answers: &mut GhostList::new(),
         who,
         moment: call.turn.moment,
     };

@@ -4,6 +4,7 @@ ghost use Rattle.mc_testing.specs.World.{IsWorld};
 
 use crate::commands::storage;
 use crate::links::may_give;
+use mc_history::GhostList;
 use mc_item::{ClassNo, Command, Config, Link, Moves, Numbers, Room, StripeNo, Verb, Who};
 use mc_pull::{Context, Lone};
 use mc_segment::{ClassState, EntryKey};
@@ -107,12 +108,10 @@ pub fn context(moment: u64, config: &Config) -> Context<'_>
 
 /// Juggles the class, as the LRU maintainer does, through a gate that is lent the stripe.
 pub fn juggle(world: &mut World, moment: u64) -> Result<Moves, Fail> {
-    let alloc = world.alloc;
-    let mut answers = Vec::new(alloc);
     let mut gate = Lone {
         number: StripeNo(0),
         stripe: &mut world.stripe,
-        answers: &mut answers,
+        answers: &mut GhostList::new(),
     };
     let context = context(moment, &world.config);
     Ok(gate.juggle(context, &mut world.class)?)

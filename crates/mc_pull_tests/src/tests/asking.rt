@@ -4,6 +4,7 @@ ghost use Rattle.mc_pull_tests.specs.Met.{AreMet};
 
 use super::seeing::{Seen, tell_seen, text_of_class, text_of_stripe};
 use super::trying::{Lend, Pair, opened, tell_command};
+use mc_history::GhostList;
 use mc_item::{Command, StripeNo, Verb};
 use mc_pull::{Judge, Lone, settle};
 use mc_testing::{WHO, context, key, storage};
@@ -112,16 +113,14 @@ fn tell_juggle(pair: &mut Pair) -> Result<String, Fail>
     requires met { AreMet pair.old.config pair.old.stripe pair.old.first pair.old.second }
     ensures met { OnOk result (AreMet pair.new.config pair.new.stripe pair.new.first pair.new.second) }
 {
-    let alloc = pair.alloc;
-    let mut answers = Vec::new(alloc);
     let mut gate = Lone {
         number: StripeNo(0),
         stripe: &mut pair.stripe,
-        answers: &mut answers,
+        answers: &mut GhostList::new(),
     };
     let context = context(pair.moment, &pair.config);
     let moves = gate.juggle(context, &mut pair.first)?;
-    Ok(format!(in alloc; "{} moved", moves.moved)?)
+    Ok(format!(in pair.alloc; "{} moved", moves.moved)?)
 }
 
 fn tell_refusal(pair: &mut Pair) -> Result<String, Fail>

@@ -83,7 +83,6 @@ pub(super) fn answer<N: Named, R: Abort + Wait>(
 /// Juggles a class.
 pub(super) fn juggle<N: Named, R: Abort + Wait>(
     rt: &R,
-    alloc: Global,
     store: &Store<N>,
     pass: &mut Pass<N>,
     class: ClassNo,
@@ -92,7 +91,7 @@ pub(super) fn juggle<N: Named, R: Abort + Wait>(
     requires { (0 < class.0) × (class.0 ≤ length N.config.sizes) }
 {
     store
-        .juggle(alloc, rt, pass, class, u64::from(moment))
+        .juggle(rt, pass, class, u64::from(moment))
         .expect(rt, "moves")
 }
 

@@ -92,7 +92,7 @@ fn set_all<N: Named, R: Abort + Wait>(rt: &R, alloc: Global, store: &Store<N>, p
     for number in 0..KEYS {
         answer(rt, alloc, store, pass, set_of(rt, alloc, number), 1000);
         if number % 100 == 0 {
-            juggle(rt, alloc, store, pass, ClassNo(1), 1000);
+            juggle(rt, store, pass, ClassNo(1), 1000);
         }
     }
 }

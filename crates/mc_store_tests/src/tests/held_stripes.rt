@@ -82,7 +82,7 @@ fn keep_up<N: Named, R: Abort + Wait>(
     let pass = &mut work.pass;
     match which {
         0 => {
-            asking::juggle(rt, alloc, store, pass, class, moment);
+            asking::juggle(rt, store, pass, class, moment);
         }
         1 => {
             asking::crawl(rt, alloc, store, pass, class, moment);

@@ -81,7 +81,7 @@ fn juggle_often<N: Named, R: Abort + Wait>(
     requires { length N.config.sizes ≡ 2 }
 {
     for _time in 0..times {
-        juggle(rt, alloc, store, pass, ClassNo(1), 1000);
+        juggle(rt, store, pass, ClassNo(1), 1000);
     }
 }
 

@@ -79,8 +79,8 @@ fn keep_up<N: Named, R: Abort + Wait>(
     let moment = 1000 + round / 16;
     match upkeep {
         Upkeep::Juggle => {
-            asking::juggle(rt, alloc, store, pass, ClassNo(1), moment);
-            asking::juggle(rt, alloc, store, pass, ClassNo(2), moment);
+            asking::juggle(rt, store, pass, ClassNo(1), moment);
+            asking::juggle(rt, store, pass, ClassNo(2), moment);
         }
         Upkeep::Crawl => {
             asking::crawl(rt, alloc, store, pass, ClassNo(1), moment);

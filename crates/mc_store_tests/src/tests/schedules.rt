@@ -101,7 +101,7 @@ fn keep_up<N: Named, R: Abort + Wait>(
     let class = ClassNo(1 + dice.below(2) as u32);
     match pass.next_who().caller {
         4 => {
-            asking::juggle(rt, alloc, store, pass, class, moment);
+            asking::juggle(rt, store, pass, class, moment);
         }
         5 => {
             asking::crawl(rt, alloc, store, pass, class, moment);

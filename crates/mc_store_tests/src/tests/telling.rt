@@ -110,7 +110,7 @@ impl<'a, N: Named, R: Abort + Wait> Desk<'a, N, R> {
         requires { length N.config.sizes ≡ self.now.shape.classes }
     {
         let class = self.class_of(class);
-        let moves = asking::juggle(self.rt, self.alloc, self.store, pass, class, self.moment);
+        let moves = asking::juggle(self.rt, self.store, pass, class, self.moment);
         format!(in self.alloc; "reclaimed {}, moved {}", moves.reclaimed, moves.moved).expect(
             self.rt, "a text",
         )

@@ -1,10 +1,10 @@
 use Rattle.std.proofs.Common.{ap, inl, subst, sym, ◌∙◌}
 use Rattle.mc_item.specs.declared.item.ClassNo.{ClassNo}
 use Rattle.mc_segment.specs.ClassState.{ClassView}
-use Rattle.mc_store.specs.{Calls.IsUpkeepCut, Accounts.IsOfWalk, Accounts.StillCalls, Hits.queue_of, Walking.class_sight}
-use Rattle.mc_board.proofs.PrefixLemmas.{prefix_self}
-use Rattle.mc_store.specs.Reached.{IsSeenState, seen_stripes}
-use Rattle.mc_store.proofs.{AccountLemmas.still_both, ReachedLemmas.class_states, ReachedLemmas.state_wider}
+use Rattle.mc_pull.specs.Rounds.{rounds}
+use Rattle.mc_store.specs.{Calls.IsUpkeepCut, Accounts.IsOfWalk, Accounts.StillCalls, Walking.class_sight}
+use Rattle.mc_store.specs.Reached.{IsSeenState}
+use Rattle.mc_store.proofs.{AccountLemmas.still_both, ReachedLemmas.side_earlier, ReachedLemmas.side_later}
 use Rattle.mc_store.proofs.{ShortHistoryLemmas.match_any, TakenHitLemmas.takes_all, TakenHitLemmas.takes_cut, TakenHitLemmas.upkept_till}
 use Rattle.mc_store.proofs.taking.upkeep_under.Goals as goal
 
@@ -14,27 +14,29 @@ returns-clause-upkept g c =
     let old = c.args.class.now in
     let mid = c.advance_hits.new.class in
     let new = c.juggle_under.new.class in
-    let begins = class_states config old.sight mid.sight old.class.number mid.class.number old.class.history mid.class.history c.advance_hits.ensures.still.sees in
-    upkept_till config (IsSeenState config.stripes mid.sight new.sight) (IsSeenState config.stripes old.sight new.sight)
-    (state_wider config.stripes (seen_stripes old.sight) (seen_stripes mid.sight) (seen_stripes new.sight) (seen_stripes new.sight) begins (λ n of. prefix_self (seen_stripes new.sight n)))
-    c.args.class.now.class c.advance_hits.new.class.class c.juggle_under.new.class.class c.args.call.turn c.args.hands.now c.advance_hits.new.hands c.juggle_under.result
-    c.advance_hits.ensures.class c.juggle_under.ensures.class c.in_ok-advance_hits.ensures.advanced c.juggle_under.ensures.juggle
+    upkept_till config c.args.call.turn (IsSeenState config.stripes old.sight mid.sight) (IsSeenState config.stripes mid.sight new.sight) (IsSeenState config.stripes old.sight new.sight)
+    (side_later config old mid new c.juggle_under.ensures.still.sees) (side_earlier config old mid new c.advance_hits.ensures.still.sees)
+    old.class mid.class new.class c.args.hands.now c.advance_hits.new.hands c.advance_hits.ensures.class c.juggle_under.ensures.class c.juggle_under.result
+    c.in_ok-advance_hits.ensures.advanced c.juggle_under.ensures.juggle
 
 pub returns-in_err-advance_hits-clause-upkept : goal.returns-in_err-advance_hits-clause-upkept
 returns-in_err-advance_hits-clause-upkept g c =
-    match_any _ (IsUpkeepCut g.N.Named.config (IsSeenState g.N.Named.config.stripes c.args.class.now.sight c.advance_hits.new.class.sight)
-    c.args.class.now.class c.args.call.turn c.args.hands.now c.advance_hits.new.hands c.advance_hits.new.class.class.history) c.in_err-advance_hits.field-0.0
+    let turn = c.args.call.turn in
+    match_any _ (IsUpkeepCut (IsSeenState g.N.Named.config.stripes c.args.class.now.sight c.advance_hits.new.class.sight) (rounds c.args.class.now.class turn.who turn.moment g.N.Named.config)
+    c.args.hands.now c.advance_hits.new.hands c.args.class.now.class.history c.advance_hits.new.class.class.history) c.in_err-advance_hits.field-0.0
     c.from_residual.result c.from_residual.ensures.1 (λ e. inl c.in_err-advance_hits.ensures.cut)
 
 pub returns-clause-taken : goal.returns-clause-taken
 returns-clause-taken g c =
-    takes_all (queue_of c.args.class.now.class.number) c.args.call.turn c.args.hands.now c.advance_hits.new.hands c.args.class.now.class.history c.advance_hits.new.class.class.history
-    c.in_ok-advance_hits.ensures.advanced
+    let turn = c.args.call.turn in
+    takes_all (IsSeenState g.N.Named.config.stripes c.args.class.now.sight c.advance_hits.new.class.sight) (rounds c.args.class.now.class turn.who turn.moment g.N.Named.config)
+    c.args.hands.now c.advance_hits.new.hands c.args.class.now.class.history c.advance_hits.new.class.class.history c.in_ok-advance_hits.ensures.advanced
 
 pub returns-in_err-advance_hits-clause-taken : goal.returns-in_err-advance_hits-clause-taken
 returns-in_err-advance_hits-clause-taken g c =
-    takes_cut (queue_of c.args.class.now.class.number) c.args.call.turn c.args.hands.now c.advance_hits.new.hands c.args.class.now.class.history c.advance_hits.new.class.class.history
-    c.in_err-advance_hits.ensures.cut
+    let turn = c.args.call.turn in
+    takes_cut (IsSeenState g.N.Named.config.stripes c.args.class.now.sight c.advance_hits.new.class.sight) (rounds c.args.class.now.class turn.who turn.moment g.N.Named.config)
+    c.args.hands.now c.advance_hits.new.hands c.args.class.now.class.history c.advance_hits.new.class.class.history c.in_err-advance_hits.ensures.cut
 
 pub returns-clause-same : goal.returns-clause-same
 returns-clause-same g c = c.advance_hits.ensures.same

@@ -1,4 +1,4 @@
-use Rattle.std.proofs.Common.{rules, ◌≡◌, List, ap, ◌∙◌, subst, sym}
+use Rattle.std.proofs.Common.{rules, ◌≡◌, ap, ◌∙◌, subst, sym}
 use Rattle.std.specs.Prelude.{MatchResult}
 use Rattle.mc_item.specs.declared.{config.Config.Config}
 use Rattle.mc_segment.specs.ClassState.{ClassView}

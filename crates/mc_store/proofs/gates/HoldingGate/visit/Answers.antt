@@ -1,17 +1,15 @@
-use Rattle.std.proofs.Common.{rules, ◌≡◌, ◌∷◌, ◌++◌, [], ℕ, List, Some, ◌∙◌, ap, length, refl, subst, sym}
+use Rattle.std.proofs.Common.{rules, ◌≡◌, ℕ, Some, ◌∙◌, ap, length, refl, subst, sym}
 use Rattle.mc_item.specs.declared.{config.Config.Config, item.StripeNo.StripeNo, item.Who.Who}
 use Rattle.mc_board.specs.{Histories.Grows, Views.SeenView}
 use Rattle.mc_store.specs.{Looked.IsOfCall, Serving.IsServed, Sides.StripeSide, Walking.StillWalksFrom}
-use Rattle.mc_store.proofs.{CallerLemmas.asked_here, CallerLemmas.begun_sees, GateLemmas.grew_on, GateLemmas.no_shorter, GateLemmas.no_shorter_both, GateLemmas.still_on, GateLemmas.still_unwalked}
+use Rattle.mc_store.proofs.{CallerLemmas.asked_here, CallerLemmas.begun_sees, GateLemmas.grew_on, GateLemmas.no_shorter_both, GateLemmas.still_on, KeptWalkLemmas.kept_first}
 use Rattle.mc_stripe.specs.StripeState.{Stripe}
 use Rattle.mc_pull.proofs.ReachedLemmas.{reached_more}
 use Rattle.mc_store.specs.Reached.{IsSeenState}
-use Rattle.mc_store.proofs.ReachedLemmas.{answers_none}
-use Rattle.mc_pull.specs.{Lone.StripeGrows, Looks.IsJudgedBy, Looks.answer_by, Question.HasKeyOf, Question.question_of, Walker.walker_of}
-use Rattle.mc_pull.specs.declared.looking.Answer.{Answer}
+use Rattle.mc_pull.specs.{Lone.StripeGrows, Looks.IsJudgedBy, Question.HasKeyOf, Question.question_of, Walker.walker_of}
 use Rattle.mc_segment.specs.ClassState.{ClassView}
 use Rattle.mc_store.proofs.VisitedStripeLemmas.{known_at, looked_away, looked_both, looked_here, same_after}
-use Rattle.mc_store.proofs.OwnEventLemmas.{searches_failed, searches_judged, searches_visited, walks_none}
+use Rattle.mc_store.proofs.OwnEventLemmas.{searches_failed, searches_judged, searches_visited}
 use Rattle.mc_store.proofs.gates.HoldingGate.visit.Goals as goal
 
 pub judge-requires-clause-look : goal.judge-requires-clause-look
@@ -65,15 +63,9 @@ returns-then-not-lends-clause-gate g c =
     let made = c.visit.ensures in
     let left = made.gate in
     let start = length me.others.owner.now.history in
-    let none = still_unwalked g.N.Named.config look.class.now.number start look.ask.who.turn me.others.seen.now.sight look.class.now.history me.others.caller.now in
-    let same = left.kept me.others look.class.now.history (
-      refl,
-      refl,
-      walks_none look.ask.who look.ask.moment me.others.seen.now.sight look.class.now.history,
-      no_shorter start,
-      none,
-      answers_none g.N.Named.config.stripes me.others.seen.now.sight me.others.seen.now.sight me.others.answers.now.items me.others.answers.now.items refl,
-    ) in
+    let same = left.kept me.others look.class.now.history
+    (kept_first g.N.Named.config look.class.now.number look.ask.who me.others.who look.ask.moment me.others.moment me.others.owner.now me.others.seen.now.sight me.others.caller.now me.others.answers.now
+    look.class.now.history) in
     let keyed = subst (λ (k : Config). HasKeyOf c.args.stripe k look.class.now q) c.requires.look.served.serves.0 c.requires.look.key in
     record {
       holds = search rules;
@@ -84,7 +76,7 @@ returns-then-not-lends-clause-gate g c =
             let was = kept.1 of in (
               (was.0.0 ∙ sym same.0, was.0.1 ∙ sym same.1),
               looked_both g.N.Named.config.stripes w _ _ _ _ _ _ _ _ was.1 kept.0
-                  (looked_away look.class.now q _ look.ask.config.now g.N.Named.config w s c.args.stripe me.others.answers.now.items c.visit.new.self.answers.now.items
+                  (looked_away look.class.now q _ look.ask.config.now g.N.Named.config w s c.args.stripe me.others.answers.now c.visit.new.self.answers.now
                   c.visit.new.look.class.now c.visit.new.look.done c.visit.result
                   c.requires.look.judge keyed (c.lends.ensures.other c.if-not-lends.true was.0.0 was.0.1) made.answer made.err),
             ),
@@ -126,7 +118,7 @@ returns-in_err-judged-clause-gate g c =
             let was = kept.1 of in (
               was.0,
               looked_both g.N.Named.config.stripes w _ _ _ _ _ _ _ _ was.1 kept.0
-                  (same_after look.class.now q g.N.Named.config.stripes w s me.others.answers.now.items c.reserve.new.self.items c.judge.new.look.class.now c.in_err-judged.ensures.judged c.reserve.ensures.items),
+                  (same_after look.class.now q g.N.Named.config.stripes w s me.others.answers.now me.others.answers.now c.judge.new.look.class.now c.in_err-judged.ensures.judged refl),
             ),
         searches_failed look.ask.who look.ask.moment _ _ _ _ _ _ kept.2 sees (ap (λ (v : ClassView). v.history) c.in_err-judged.ensures.judged),
         no_shorter_both (length first.others.owner.now.history) (length me.others.owner.now.history) (length c.judge.new.owner.history) kept.3 c.judge.ensures.owner,
@@ -156,7 +148,6 @@ returns-clause-gate g c =
     let grows : StripeGrows w s c.judge.new.stripe.stripe = subst (λ (x : Stripe). StripeGrows w x c.judge.new.stripe.stripe) learnt left.stripe in
     let known = known_at look.class.now q g.N.Named.config look.ask.config.now s c.learn.new.self.stripe c.args.stripe c.in_ok-judged.judged gate.0
     learnt (c.lends.ensures.own c.if-not-lends.false).0 c.requires.look.key made.known in
-    let answered = c.push_reserved.ensures.items ∙ ap (λ (xs : List Answer). xs ++ answer_by c.args.stripe (Some c.in_ok-judged.judged) ∷ []) c.reserve.ensures.items in
     record {
       holds = search rules;
       serves = (
@@ -171,8 +162,8 @@ returns-clause-gate g c =
             let was = kept.1 of in (
               was.0,
               looked_both g.N.Named.config.stripes w _ _ _ _ _ _ _ _ was.1 kept.0
-                  (looked_here look.class.now q g.N.Named.config s c.args.stripe me.others.answers.now.items c.push_reserved.new.self.items
-                  c.judge.new.look.class.now.history c.in_ok-judged.judged known answered (ap (λ (v : ClassView). v.history) made.class)),
+                  (looked_here look.class.now q g.N.Named.config s c.args.stripe me.others.answers.now c.push.new.self
+                  c.judge.new.look.class.now.history c.in_ok-judged.judged known c.push.ensures (ap (λ (v : ClassView). v.history) made.class)),
             ),
         searches_judged q _ _ _ _ look.class.now c.judge.new.look.class.now (Some c.in_ok-judged.judged) kept.2 sees made.class,
         no_shorter_both (length first.others.owner.now.history) (length me.others.owner.now.history) (length c.judge.new.owner.history) kept.3 c.judge.ensures.owner,

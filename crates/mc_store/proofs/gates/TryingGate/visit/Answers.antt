@@ -1,10 +1,9 @@
-use Rattle.std.proofs.Common.{rules, ◌≡◌, ◌∙◌, ◌++◌, ◌∷◌, [], ℕ, List, None, Some, ap, length, subst, sym}
+use Rattle.std.proofs.Common.{rules, ◌≡◌, ◌∙◌, ℕ, Some, ap, length, refl, subst, sym}
 use Rattle.mc_item.specs.declared.{config.Config.Config, item.StripeNo.StripeNo, item.Who.Who}
-use Rattle.mc_pull.specs.{Looks.IsJudgedBy, Looks.answer_by, Question.question_of}
+use Rattle.mc_pull.specs.{Looks.IsJudgedBy, Question.question_of}
 use Rattle.mc_pull.proofs.ReachedLemmas.{reached_more}
 use Rattle.mc_store.specs.Reached.{IsSeenState}
 use Rattle.mc_store.proofs.ReachedLemmas.{answers_both, answers_none, answers_one, answers_passed}
-use Rattle.mc_pull.specs.declared.looking.Answer.{Answer}
 use Rattle.mc_board.specs.{Histories.Grows, Views.SeenView}
 use Rattle.mc_segment.specs.ClassState.{ClassView}
 use Rattle.mc_store.specs.{Serving.IsServed, Sides.StripeSide, Walking.StillWalksFrom}
@@ -18,7 +17,7 @@ judge-requires-clause-look g c =
     let me = c.args.self.now in
     let look = c.args.look.now in
     let gate = c.requires.look.served.serves in
-    let own = c.is_foreign.ensures.own c.if-is_foreign.false in
+    let own = c.in-Some.ensures.own in
     record {
       of = gate.0;
       number = ap (λ (w : Who). w.caller) own.0 ∙ gate.3;
@@ -39,7 +38,8 @@ returns-clause-answer g c =
     let own = c.learn.new.self.stripe in
     let state =
     subst (λ (v : SeenView). IsSeenState g.N.Named.config.stripes v.sight c.judge.new.seen.sight own) c.learn.ensures.same c.judge.ensures.left.state in
-    let number : record { 0 = c.learn.new.self.stripe.site.stripe } ≡ c.args.stripe = ap (λ (n : ℕ). record { 0 = n }) seen ∙ sym (c.is_numbered.ensures c.if-not-is_numbered.false) in
+    let number : record { 0 = c.learn.new.self.stripe.site.stripe } ≡ c.args.stripe = ap (λ (n : ℕ). record { 0 = n })
+    (seen ∙ (ap (λ (x : StripeSide). x.stripe.site.stripe) c.deref_mut-own.ensures.value ∙ c.in-Some.ensures.of)) in
     record {
       judged = Some j;
       made_is = c.in_ok-judged.ensures.noted;
@@ -79,8 +79,8 @@ returns-in_err-judged-clause-gate g c =
         no_shorter_both (length first.owner.now.history) (length me.owner.now.history) (length c.judge.new.owner.history) kept.3 c.judge.ensures.owner,
         still_on g.N.Named.config look.class.now.number (length first.owner.now.history) (length me.owner.now.history) look.ask.who.turn first.seen.now.sight me.seen.now.sight c.judge.new.seen.sight
             begun look.class.now.history c.judge.new.look.class.now.history first.caller.now me.caller.now c.judge.new.caller kept.3 kept.4 still,
-        answers_both g.N.Named.config.stripes first.seen.now.sight me.seen.now.sight c.judge.new.seen.sight first.answers.now.items me.answers.now.items c.reserve.new.self.items kept.2.sees sees kept.5
-            (answers_none g.N.Named.config.stripes me.seen.now.sight c.judge.new.seen.sight me.answers.now.items c.reserve.new.self.items c.reserve.ensures.items),
+        answers_both g.N.Named.config.stripes first.seen.now.sight me.seen.now.sight c.judge.new.seen.sight first.answers.now me.answers.now me.answers.now kept.2.sees sees kept.5
+            (answers_none g.N.Named.config.stripes me.seen.now.sight c.judge.new.seen.sight me.answers.now me.answers.now refl),
       );
     }
 
@@ -114,46 +114,18 @@ returns-clause-gate g c =
         no_shorter_both (length first.owner.now.history) (length me.owner.now.history) (length c.judge.new.owner.history) kept.3 c.judge.ensures.owner,
         still_on g.N.Named.config look.class.now.number (length first.owner.now.history) (length me.owner.now.history) look.ask.who.turn first.seen.now.sight me.seen.now.sight c.judge.new.seen.sight
             begun look.class.now.history c.judge.new.look.class.now.history first.caller.now me.caller.now c.judge.new.caller kept.3 kept.4 still,
-        answers_both g.N.Named.config.stripes first.seen.now.sight me.seen.now.sight c.judge.new.seen.sight first.answers.now.items me.answers.now.items c.push_reserved-2.new.self.items kept.2.sees sees kept.5
-            (answers_one g.N.Named.config.stripes me.seen.now.sight c.judge.new.seen.sight me.answers.now.items c.push_reserved-2.new.self.items c.args.stripe (Some c.in_ok-judged.judged)
-            (c.push_reserved-2.ensures.items ∙ ap (λ (xs : List Answer). xs ++ answer_by c.args.stripe (Some c.in_ok-judged.judged) ∷ []) c.reserve.ensures.items)
+        answers_both g.N.Named.config.stripes first.seen.now.sight me.seen.now.sight c.judge.new.seen.sight first.answers.now me.answers.now c.push-2.new.self kept.2.sees sees kept.5
+            (answers_one g.N.Named.config.stripes me.seen.now.sight c.judge.new.seen.sight me.answers.now c.push-2.new.self c.args.stripe (Some c.in_ok-judged.judged) c.push-2.ensures
             (subst (IsSeenState g.N.Named.config.stripes me.seen.now.sight c.judge.new.seen.sight) (sym c.in_ok-judged.ensures.judged.reached.1) state)),
       );
     }
 
 pub returns-in_default-clause-answer : goal.returns-in_default-clause-answer
-returns-in_default-clause-answer g c =
-    passed_by _ c.args.stripe _ _ _ _ _ c.requires.once (c.push_reserved-in_default.ensures.items ∙ ap (λ (xs : List Answer). xs ++ answer_by c.args.stripe None ∷ []) c.reserve.ensures.items)
-
-pub returns-in_default-try_lock-clause-answer : goal.returns-in_default-try_lock-clause-answer
-returns-in_default-try_lock-clause-answer g c =
-    passed_by _ c.args.stripe _ _ _ _ _ c.requires.once (c.push_reserved-in_default-try_lock.ensures.items ∙ ap (λ (xs : List Answer). xs ++ answer_by c.args.stripe None ∷ []) c.reserve.ensures.items)
-
-pub returns-then-not-is_numbered-clause-answer : goal.returns-then-not-is_numbered-clause-answer
-returns-then-not-is_numbered-clause-answer g c =
-    passed_by _ c.args.stripe _ _ _ _ _ c.requires.once (c.push_reserved-then-not-is_numbered.ensures.items ∙ ap (λ (xs : List Answer). xs ++ answer_by c.args.stripe None ∷ []) c.reserve.ensures.items)
-
-pub returns-then-is_foreign-clause-gate : goal.returns-then-is_foreign-clause-gate
-returns-then-is_foreign-clause-gate g c =
-    let me = c.args.self.now in
-    let answered = c.push_reserved.ensures.items ∙ ap (λ (xs : List Answer). xs ++ answer_by c.args.stripe None ∷ []) c.reserve.ensures.items in
-    record {
-      holds = search rules;
-      serves = c.requires.look.served.serves;
-      kept = λ first begun kept. (
-        kept.0,
-        kept.1,
-        kept.2,
-        kept.3,
-        kept.4,
-        answers_passed g.N.Named.config.stripes first.seen.now.sight me.seen.now.sight first.answers.now.items me.answers.now.items c.push_reserved.new.self.items c.args.stripe kept.2.sees kept.5 answered,
-      );
-    }
+returns-in_default-clause-answer g c = passed_by _ c.args.stripe _ _ _ _ _ c.requires.once c.push.ensures
 
 pub returns-in_default-clause-gate : goal.returns-in_default-clause-gate
 returns-in_default-clause-gate g c =
     let me = c.args.self.now in
-    let answered = c.push_reserved-in_default.ensures.items ∙ ap (λ (xs : List Answer). xs ++ answer_by c.args.stripe None ∷ []) c.reserve.ensures.items in
     record {
       holds = search rules;
       serves = c.requires.look.served.serves;
@@ -163,42 +135,6 @@ returns-in_default-clause-gate g c =
         kept.2,
         kept.3,
         kept.4,
-        answers_passed g.N.Named.config.stripes first.seen.now.sight me.seen.now.sight first.answers.now.items me.answers.now.items c.push_reserved-in_default.new.self.items c.args.stripe kept.2.sees kept.5 answered,
-      );
-    }
-
-pub returns-in_default-try_lock-clause-gate : goal.returns-in_default-try_lock-clause-gate
-returns-in_default-try_lock-clause-gate g c =
-    let me = c.args.self.now in
-    let answered = c.push_reserved-in_default-try_lock.ensures.items ∙ ap (λ (xs : List Answer). xs ++ answer_by c.args.stripe None ∷ []) c.reserve.ensures.items in
-    record {
-      holds = search rules;
-      serves = c.requires.look.served.serves;
-      kept = λ first begun kept. (
-        kept.0,
-        kept.1,
-        kept.2,
-        kept.3,
-        kept.4,
-        answers_passed g.N.Named.config.stripes first.seen.now.sight me.seen.now.sight first.answers.now.items me.answers.now.items c.push_reserved-in_default-try_lock.new.self.items c.args.stripe
-            kept.2.sees kept.5 answered,
-      );
-    }
-
-pub returns-then-not-is_numbered-clause-gate : goal.returns-then-not-is_numbered-clause-gate
-returns-then-not-is_numbered-clause-gate g c =
-    let me = c.args.self.now in
-    let answered = c.push_reserved-then-not-is_numbered.ensures.items ∙ ap (λ (xs : List Answer). xs ++ answer_by c.args.stripe None ∷ []) c.reserve.ensures.items in
-    record {
-      holds = search rules;
-      serves = c.requires.look.served.serves;
-      kept = λ first begun kept. (
-        kept.0,
-        kept.1,
-        kept.2,
-        kept.3,
-        kept.4,
-        answers_passed g.N.Named.config.stripes first.seen.now.sight me.seen.now.sight first.answers.now.items me.answers.now.items c.push_reserved-then-not-is_numbered.new.self.items c.args.stripe
-            kept.2.sees kept.5 answered,
+        answers_passed g.N.Named.config.stripes first.seen.now.sight me.seen.now.sight first.answers.now me.answers.now c.push.new.self c.args.stripe kept.2.sees kept.5 c.push.ensures,
       );
     }

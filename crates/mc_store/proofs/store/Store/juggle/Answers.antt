@@ -3,6 +3,7 @@ use Rattle.std.specs.Prelude.{MatchResult}
 use Rattle.mc_item.specs.declared.{call_event.CallEvent.CallEvent, item.Who.Who}
 use Rattle.mc_board.specs.{Histories.Grows, Histories.list_at, Views.SeenView}
 use Rattle.mc_pull.specs.Growth as classes
+use Rattle.mc_pull.specs.Rounds.{rounds}
 use Rattle.mc_hits.specs.{Views.HandsView}
 use Rattle.mc_evidence.specs.Seen.{stripes_seen}
 use Rattle.mc_store.specs.{Accounts.Enters, Accounts.IsOfWalk, Accounts.StillCalls, Callers.juggling_of, Callers.placed_in, Callers.turns_of, Calls.IsUpkeepCut, Calls.IsUpkept, Finals.IsBehindAt, Hits.queue_of}
@@ -68,19 +69,19 @@ module _ (g : Over) (c : After-share g) where
       grows_trans c.args.pass.now.sight c.learn.new.self.sight c.tell_class.new.class.sight first c.tell_class.ensures.grows
 
   upkept : MatchResult c.upkeep_under-moves.result
-      (IsUpkept g.N.Named.config (IsSeenState g.N.Named.config.stripes c.args.pass.now.sight c.share.new.seen.sight) old_side.class (record { who = next_who c.args.pass.now; moment = c.args.moment })
-      c.args.pass.now.hands c.upkeep_under-moves.new.hands new_side.class.history)
-      (IsUpkeepCut g.N.Named.config (IsSeenState g.N.Named.config.stripes c.args.pass.now.sight c.share.new.seen.sight) old_side.class (record { who = next_who c.args.pass.now; moment = c.args.moment })
-      c.args.pass.now.hands c.upkeep_under-moves.new.hands new_side.class.history)
+      (IsUpkept (IsSeenState g.N.Named.config.stripes c.args.pass.now.sight c.share.new.seen.sight) (rounds old_side.class (next_who c.args.pass.now) c.args.moment g.N.Named.config)
+      c.args.pass.now.hands c.upkeep_under-moves.new.hands old_side.class.history new_side.class.history)
+      (IsUpkeepCut (IsSeenState g.N.Named.config.stripes c.args.pass.now.sight c.share.new.seen.sight) (rounds old_side.class (next_who c.args.pass.now) c.args.moment g.N.Named.config)
+      c.args.pass.now.hands c.upkeep_under-moves.new.hands old_side.class.history new_side.class.history)
   upkept =
       let stripes = g.N.Named.config.stripes in
-      let first = c.tell_class.new.class.sight in
+      let first = c.tell_class.new.class in
       let last = c.share.new.seen.sight in
+      let new = c.upkeep_under-moves.new.class in
       rw (hands, c.in_ok-who.ensures.took.who, class_is) at
-      (upkept_more g.N.Named.config (IsSeenState stripes first c.upkeep_under-moves.new.class.sight) (IsSeenState stripes c.args.pass.now.sight last)
-      (state_sees stripes c.args.pass.now.sight first c.upkeep_under-moves.new.class.sight last learnt all) c.tell_class.new.class.class (record { who = c.in_ok-who.who; moment = c.args.moment })
-      c.pass.inside.hands c.upkeep_under-moves.new.hands c.upkeep_under-moves.new.class.class.history c.upkeep_under-moves.result
-      c.upkeep_under-moves.ensures.upkept)
+      (upkept_more (IsSeenState stripes first.sight new.sight) (IsSeenState stripes c.args.pass.now.sight last)
+      (state_sees stripes c.args.pass.now.sight first.sight new.sight last learnt all) (rounds first.class c.in_ok-who.who c.args.moment g.N.Named.config)
+      c.pass.inside.hands c.upkeep_under-moves.new.hands first.class.history new.class.history c.upkeep_under-moves.result c.upkeep_under-moves.ensures.upkept)
 
   -- the call was noted, and the account has what the upkeep made
   calls : c.upkeep_under-moves.new.caller.calls ≡ c.args.pass.now.calls ++ juggling_of c.args.class c.args.moment ∷ []
