@@ -1,5 +1,5 @@
 -- Keys: which bytes make one, and what is wrong with others (protocol.txt, "Keys"; the choice of bytes is this project's own).
-use Rattle.std.specs.Prelude.{ℕ, ◌≡◌, ◌==◌, ◌||◌, List, Bool, not, nat_lt, if◌then◌else◌, Option, Some, None, length}
+use Rattle.std.specs.Prelude.{ℕ, ◌≡◌, ◌<◌, ◌==◌, ◌||◌, List, Bool, not, nat_lt, if◌then◌else◌, Option, Some, None, length}
 use Rattle.std.specs.List.{list_all}
 use Rattle.mc_item.specs.declared.{key.Named.Named, key.Named.TheVariants.Short, key.Named.TheVariants.Long, key.KeyFault.KeyFault}
 use Rattle.mc_item.specs.declared.key.KeyFault.TheVariants.{Empty, TooLong, BadByte}
@@ -24,3 +24,8 @@ IsKey bytes = key_fault_of bytes ≡ None
 abbrev pub named_bytes : Named → List ℕ
 named_bytes (Short bytes) = bytes
 named_bytes (Long bytes) = bytes.items
+
+-- the bytes are where they belong: bytes in memory of their own are more than 30
+abbrev pub IsPlaced : Named → Type 0
+IsPlaced (Short bytes) = Unit {0}
+IsPlaced (Long bytes) = 30 < length bytes.items

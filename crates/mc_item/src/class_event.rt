@@ -1,5 +1,6 @@
 //! The events of a slab class's history. `who` is the call that made the event, and a moment is a time in seconds. `passed` has
-//! the numbers of the entries nearer to the tail. `at` is how many events the stripe of the entry's key had then.
+//! the numbers of the entries nearer to the tail. It is empty for a hit. `at` is how many events the stripe of the entry's key
+//! had then.
 use crate::item::Who;
 use crate::key::Key;
 use crate::lists::{Passed, Seg};

@@ -131,8 +131,8 @@ fn is_rising(numbers: &[u64]) -> bool
 }
 
 impl Config {
-    /// Returns the usual configuration for this many callers: one stripe, and the 43 usual sizes with 1,024 chunks each. Fails
-    /// with `NoMemory` if there is no memory for the lists of sizes and chunks.
+    /// Returns the usual configuration for this many callers: one stripe, the 43 usual sizes with 1,024 chunks each, and histories
+    /// that keep their events. Fails with `NoMemory` if there is no memory for the lists of sizes and chunks.
     pub fn usual(alloc: Global, callers: u32) -> Result<Config, NoMemory>
         ensures { IfOk result (λ config. config ≡ usual_config callers) }
     {

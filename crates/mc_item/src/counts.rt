@@ -2,7 +2,7 @@
 ghost use Rattle.std.specs.Prelude.{◌≡◌, length};
 ghost use Rattle.mc_item.specs.Counts.{FitsTogether, added, no_counts};
 
-/// How many entries one call of the maintainer reclaimed, and how many it moved.
+/// How many entries one call of the maintainer reclaimed, and how many it moved other than for hits.
 #[derive(Clone, Copy, Debug, PartialEq, Eq)]
 pub struct Moves {
     pub reclaimed: u64,

@@ -1,8 +1,8 @@
 //! Keys, the names of items.
-ghost use Rattle.std.specs.Prelude.{◌≡◌, ◌∷◌, [], None, nat_eq, IfOk, IfErr, MatchOption};
+ghost use Rattle.std.specs.Prelude.{◌≡◌, ◌≤◌, ◌∷◌, [], None, nat_eq, length, IfOk, IfErr, IsOk, IsErrOf, MatchOption};
 ghost use Rattle.std.specs.{Cmp.partial_equiv_from_equiv, Cmp.Lexicographic.pointwise, Cmp.Lexicographic.nat_list_eq_equiv, Cmp.Rules.hashing, List.list_all};
 ghost use Rattle.std.proofs.Common.{rules};
-ghost use Rattle.mc_item.specs.Key.{key_fault_of, IsKey, named_bytes};
+ghost use Rattle.mc_item.specs.Key.{key_fault_of, IsKey, IsPlaced, named_bytes};
 ghost use Rattle.mc_item.specs.declared.key.KeyFault.TheVariants as faults;
 
 use crate::fault::NoMemory;
@@ -63,13 +63,13 @@ pub struct Key {
 
 impl Model for Key {
     ghost use Rattle.std.specs.Prelude.{List, ℕ};
-    ghost use Rattle.mc_item.specs.Key.{IsKey, named_bytes};
+    ghost use Rattle.mc_item.specs.Key.{IsKey, IsPlaced, named_bytes};
 
     ghost Value = { List ℕ };
 
     ghost view = { λ k. named_bytes k.bytes };
 
-    ghost invariant = { λ k. IsKey (named_bytes k.bytes) };
+    ghost invariant = { λ k. IsKey (named_bytes k.bytes) × IsPlaced k.bytes };
 }
 
 fn is_key_byte(byte: u8) -> bool
@@ -102,7 +102,9 @@ fn fault_of(bytes: &[u8]) -> Option<KeyFault>
 // Puts the bytes where a key has them: up to 30 within it, more in memory of their own.
 #[inline(always)]
 fn bytes_for(alloc: Global, bytes: &[u8]) -> Result<Named, AllocError>
-    ensures { IfOk result (λ n. named_bytes n ≡ bytes.now) }
+    ensures bytes { IfOk result (λ n. named_bytes n ≡ bytes.now) }
+    ensures placed { IfOk result IsPlaced }
+    ensures short { length bytes.now ≤ 30 → IsOk result }
 {
     if bytes.len() <= SHORT_LEN {
         Ok(Named::Short(ShortBytes::of(bytes)))
@@ -117,6 +119,7 @@ impl Key {
     pub fn of(alloc: Global, bytes: &[u8]) -> Result<Key, KeyFault>
         ensures ok { IfOk result (λ key. (key ≡ bytes.now) × (key_fault_of bytes.now ≡ None)) }
         ensures err { IfErr result (λ fault. MatchOption (key_fault_of bytes.now) (fault ≡ faults.NoMemory) (λ first. fault ≡ first)) }
+        ensures short { length bytes.now ≤ 30 → IsErrOf result faults.NoMemory → ⊥ }
     {
         match fault_of(bytes) {
             Some(fault) => Err(fault),
@@ -140,7 +143,8 @@ impl Key {
     /// Returns an equal key. Up to 30 bytes take no memory. Fails with `NoMemory` if more find none.
     #[inline(always)]
     pub fn copy(&self, alloc: Global) -> Result<Key, NoMemory>
-        ensures { IfOk result (λ key. key ≡ self.now) }
+        ensures ok { IfOk result (λ key. key ≡ self.now) }
+        ensures short { length self.now ≤ 30 → IsOk result }
     {
         match &self.bytes {
             Named::Short(bytes) => Ok(Key {

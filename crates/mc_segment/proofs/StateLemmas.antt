@@ -7,7 +7,7 @@ use Rattle.mc_item.specs.declared.class_event.ClassEvent.TheVariants as events
 use Rattle.mc_item.specs.declared.config.ConfigFault.TheVariants.{Stripes, Sizes, Chunks, Percent, Factor, Callers, Events}
 use Rattle.mc_item.specs.Config.{fault_of, are_stripes, are_sizes, are_chunks, are_percents, are_factors, are_callers, are_events}
 use Rattle.mc_rule.proofs.HistoryLemmas.{chunks_from-push}
-use Rattle.mc_rule.specs.Lists.{Lists, no_lists, lists_from, lists_of, lists_after, chunks_after, chunks_from, entries_linked_by, entries_linked}
+use Rattle.mc_rule.specs.Lists.{Lists, no_lists, lists_from, lists_of, lists_after, chunks_after, entries_linked_by, entries_linked}
 use Rattle.mc_rule.specs.{Segment.Rule, Lawful.names, Lawful.is_named, Lawful.IsLawfulByLists, Lawful.IsLawfulByListsFrom}
 use Rattle.mc_segment.specs.{Arena.Held, ClassState.ClassView, ClassState.class_view, ClassState.HasPlaces, ClassState.IsReplay}
 use Rattle.mc_segment.proofs.ChainLemmas.{not_equal}
@@ -87,9 +87,6 @@ module _ {was : ℕ} (h : Held) (number : ClassNo) (chunks max_events : ℕ) (ke
 
   pub seen_next : h.next ≡ entries_linked v.history
   seen_next = r.next_is ∙ ap (λ (x : ClassView). entries_linked x.history) is
-
-  pub seen_limit : was ≡ chunks_from v.chunks v.history
-  seen_limit = r.now_is ∙ ap (λ (x : ClassView). chunks_from x.chunks x.history) is
 
   pub seen_fresh : (q : ℕ) → h.next ≤ q → is_named q v.history ≡ false
   seen_fresh q below = sym (ap (λ (x : ClassView). is_named q x.history) is) ∙ r.fresh q below

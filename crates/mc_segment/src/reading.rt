@@ -1,5 +1,5 @@
 //! Reads a class's lists and history. Of these calls only `key` takes memory.
-ghost use Rattle.std.specs.Prelude.{◌≡◌, ◌≤◌, ◌^◌, ◌+◌, ◌↔◌, ℕ, false, None, Some, length, take, reverse, IsTrue, IfSome, IfOk};
+ghost use Rattle.std.specs.Prelude.{◌≡◌, ◌≤◌, ◌<◌, ◌^◌, ◌+◌, ◌↔◌, ℕ, false, None, Some, length, take, reverse, IsTrue, IfSome, IfOk, OnErr};
 ghost use Rattle.std.specs.Option.{option_copied, IsSomeAnd};
 ghost use Rattle.mc_item.specs.declared.{lists.Entry.Entry, lists.Seg.Seg};
 ghost use Rattle.mc_rule.specs.Figures.{figures_of_lists};
@@ -150,7 +150,8 @@ impl ClassState {
     /// Returns a copy of the key of an entry that is in a list. Errors: `NoMemory`, only for a key of more than 30 bytes.
     pub fn key(&self, number: u64) -> Result<Key, NoMemory>
         requires there { IsListed number (lists_of self.now.history) }
-        ensures { IfOk result (λ key. IsSomeAnd (entry_of number (lists_of self.now.history)) (λ e. key ≡ e.key)) }
+        ensures ok { IfOk result (λ key. IsSomeAnd (entry_of number (lists_of self.now.history)) (λ e. key ≡ e.key)) }
+        ensures short { OnErr result (IsSomeAnd (entry_of number (lists_of self.now.history)) (λ e. 30 < length e.key)) }
     {
         self.entry(number).unwrap().key.copy(self.alloc)
     }
