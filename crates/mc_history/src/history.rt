@@ -1,5 +1,5 @@
 //! A history's events: kept in memory, or let go as they come.
-ghost use Rattle.std.specs.Prelude.{◌≡◌, ◌+◌, ◌<◌, ◌≤◌, [], ◌∷◌, ◌++◌, length, OnOk, IsOk, Some, IfSome, true};
+ghost use Rattle.std.specs.Prelude.{◌≡◌, ◌+◌, ◌^◌, ◌<◌, ◌≤◌, [], ◌∷◌, ◌++◌, length, OnOk, IsOk, Some, IfSome, true, false};
 ghost use Rattle.std.specs.{Option.option_copied, List.slice_get};
 
 use crate::let_go::LetGo;
@@ -94,12 +94,14 @@ impl<E: Drop, S: Shows<E> + Drop> History<E, S> {
 
     /// Makes room for `n` more events.
     /// Errors: `AllocError` if memory is refused or there would be more than 2^63 events. No event changes, and no room is lost.
+    /// A history that lets events go takes no memory, so it fails only if there would be more than 2^63 events.
     #[inline(always)]
     pub fn reserve(&mut self, n: usize) -> Result<(), AllocError>
         ensures items { self.new.items ≡ self.old.items }
         ensures ok { OnOk result (n ≤ self.new.room) }
         ensures room { self.old.room ≤ self.new.room }
         ensures succeeds { n ≤ self.old.room → IsOk result }
+        ensures let_go { self.old.kept ≡ false → length self.old.items + n ≤ 2 ^ 63 → IsOk result }
         ensures kept { self.new.kept ≡ self.old.kept }
     {
         match &mut self.form {

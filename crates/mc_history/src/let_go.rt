@@ -1,5 +1,5 @@
 //! Events that are let go as they come, and only counted.
-ghost use Rattle.std.specs.Prelude.{◌≡◌, ◌+◌, ◌<◌, ◌≤◌, ◌∷◌, ◌++◌, [], false, length, OnOk, IsOk};
+ghost use Rattle.std.specs.Prelude.{◌≡◌, ◌+◌, ◌<◌, ◌≤◌, ◌^◌, ◌∷◌, ◌++◌, [], false, length, OnOk, IsOk};
 ghost use Rattle.mc_history.specs.Events.{Events};
 
 use crate::ghost_list::GhostList;
@@ -48,13 +48,14 @@ impl<E: Drop> LetGo<E> {
         self.len
     }
 
-    // Promises room for `n` more events. It takes no memory, and fails only past 2^63 events.
+    // Promises room for `n` more events. It takes no memory, so it fails only if there would be more than 2^63 events.
     #[inline(always)]
     pub(crate) fn reserve(&mut self, n: usize) -> Result<(), AllocError>
         ensures items { self.new ≡ record self.old { room = self.new.room } }
         ensures ok { OnOk result (n ≤ self.new.room) }
         ensures room { self.old.room ≤ self.new.room }
         ensures succeeds { n ≤ self.old.room → IsOk result }
+        ensures few { length self.old.items + n ≤ 2 ^ 63 → IsOk result }
     {
         if n <= self.end - self.len {
             return Ok(());
