@@ -26,13 +26,10 @@ fn room_for(need: Need, given: &Given, old: Link) -> Result<Offer, Want>
         × IsLacking given.now (record { home = Some class; other = class_beside class (Some old) }) want) }
 {
     match need {
-        Need::Fresh(class) => match given.room(class, Some(old)) {
-            Ok(room) => Ok(Offer {
-                class: Some(class),
-                room,
-            }),
-            Err(want) => Err(want),
-        },
+        Need::Fresh(class) => Ok(Offer {
+            class: Some(class),
+            room: given.room(class, Some(old))?,
+        }),
         Need::Nothing | Need::Same | Need::TooLarge => Ok(Offer {
             class: None,
             room: Room::Keep,

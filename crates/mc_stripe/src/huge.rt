@@ -34,10 +34,7 @@ pub(crate) fn refuse_huge(
     }
     match verb {
         Verb::Set => {}
-        Verb::Add => return Ok(untouched(Reply::TooLarge, Reply::TooLarge, 0)),
-        Verb::Replace => return Ok(untouched(Reply::TooLarge, Reply::TooLarge, 0)),
-        Verb::Cas(_) => return Ok(untouched(Reply::TooLarge, Reply::TooLarge, 0)),
-        Verb::Append | Verb::Prepend => {
+        Verb::Add | Verb::Replace | Verb::Cas(_) | Verb::Append | Verb::Prepend => {
             return Ok(untouched(Reply::TooLarge, Reply::TooLarge, 0));
         }
     }

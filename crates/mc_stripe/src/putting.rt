@@ -144,10 +144,7 @@ fn let_go(verb: Verb, old: Option<Link>) -> Fate
             None => Fate::Untouched,
             Some(link) => Fate::Goes(link),
         },
-        Verb::Add => Fate::Untouched,
-        Verb::Replace => Fate::Untouched,
-        Verb::Cas(_) => Fate::Untouched,
-        Verb::Append | Verb::Prepend => Fate::Untouched,
+        Verb::Add | Verb::Replace | Verb::Cas(_) | Verb::Append | Verb::Prepend => Fate::Untouched,
     }
 }
 
@@ -294,10 +291,5 @@ pub(crate) fn put_item(
 fn goes_by(fate: Fate) -> bool
     ensures { result ≡ goes fate }
 {
-    match fate {
-        Fate::Goes(_) => true,
-        Fate::Untouched => false,
-        Fate::Renewed { .. } => false,
-        Fate::Woken(_) => false,
-    }
+    matches!(fate, Fate::Goes(_))
 }

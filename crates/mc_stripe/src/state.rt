@@ -1,5 +1,5 @@
 //! The state of a stripe: its fields, how it is made, and how memory is reserved for its events.
-ghost use Rattle.std.specs.Prelude.{◌≡◌, ◌≤◌, ◌<◌, ◌+◌, [], OnOk, IsErrOf, IsTrue, MatchBool, ◌↔◌, length};
+ghost use Rattle.std.specs.Prelude.{◌≡◌, ◌≢◌, ◌≤◌, ◌<◌, ◌+◌, [], Err, OnOk, IsErrOf, IsTrue, MatchBool, ◌↔◌, length};
 ghost use Rattle.std.specs.Option.{option_copied};
 ghost use Rattle.mc_item.specs.{Config.IsBounded, Stripe.IsLegal};
 ghost use Rattle.mc_item.specs.Measure as measure;
@@ -106,11 +106,12 @@ impl StripeState {
 
     /// Reserves memory for n more events. Each event uses at most one of this room, and `forget_expired`, `forget_taken` and
     /// `cool` take no other memory. Only the room changes, and it doesn't shrink. Errors: `HistoryFull` exactly if the history
-    /// has fewer than n places left, `NoMemory` if the allocator refuses.
+    /// has fewer than n places left, `NoMemory` only if the room was less than n.
     #[inline(always)]
     pub fn reserve(&mut self, n: usize) -> Result<(), Fault>
         ensures ok { OnOk result (n ≤ self.new.room) }
         ensures full { IsErrOf result faults.HistoryFull ↔ (self.old.limit < length self.old.history + n) }
+        ensures memory { n ≤ self.old.room → result ≢ Err faults.NoMemory }
         ensures site { KeepsSite self.old self.new }
         ensures history { self.new.history ≡ self.old.history }
         ensures room { self.old.room ≤ self.new.room }
