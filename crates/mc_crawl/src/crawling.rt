@@ -34,7 +34,7 @@ fn kind_at<G: Gate>(
 }
 
 /// Crawls one link of a class's snapshot. If the link's number is still in a list, the gate is asked once for the stripe of the
-/// entry's key. An item that is dead at `moment` is removed with its entry. The histogram counts the link as seen, and as gone,
+/// entry's key. An item that is dead by then is removed with its entry. The histogram counts the link as seen, and as gone,
 /// passed, reclaimed, or by how long its item has left. Each count must be less than 2^64 - 1.
 /// Errors: the gate's faults. The histogram, the class's history and the gate's answers are then unchanged.
 pub fn crawl_one<G: Gate>(

@@ -1,17 +1,17 @@
 -- What a walker leaves of the one stripe that its gate is lent.
 use Rattle.std.proofs.Common.{◌≡◌, ◌++◌, List, [], ◌∷◌, Option, Some, None, Result, Ok, Err, refl, sym, ap, ◌∙◌, subst, append_assoc}
 use Rattle.std.specs.Prelude.{IfOk, OnErr}
-use Rattle.std.proofs.lemmas.List.{append-nil}
-use Rattle.mc_item.specs.declared.{answer.Site.Site, class_event.ClassEvent.ClassEvent, class_event.Surveyed.Surveyed, fault.Fault.Fault, item.ClassNo.ClassNo}
+use Rattle.std.proofs.lemmas.{List.append-nil, List.Elements.All-nil, List.Elements.All-push}
+use Rattle.mc_item.specs.declared.{answer.Site.Site, class_event.ClassEvent.ClassEvent, class_event.Surveyed.Surveyed, fault.Fault.Fault, item.ClassNo.ClassNo, item.StripeNo.StripeNo}
 use Rattle.mc_item.specs.declared.{lists.Entry.Entry, stripe_event.StripeEvent.StripeEvent}
 use Rattle.mc_item.specs.declared.class_event.ClassEvent.TheVariants as entries
 use Rattle.mc_rule.specs.{Agreement.Agree, Lists.lists_of, Segment.Rule}
 use Rattle.mc_evidence.proofs.AgreementLemmas.{agree_surveyed}
 use Rattle.mc_segment.specs.{ClassState.ClassView, ClassState.with_room, Entries.entry_of}
 use Rattle.mc_stripe.specs.{StripeCalls.KeepsSite, StripeState.Stripe}
-use Rattle.mc_pull.specs.{Agreeing.KeepsAgreement, Lone.AreMadeBy, Lone.Walked, Question.Question, Walker.Walker, Walker.walker_of}
+use Rattle.mc_pull.specs.{Agreeing.KeepsAgreement, Lone.AnswersAlone, Lone.AreMadeBy, Lone.IsAnsweredAlone, Lone.Walked, Question.Question, Walker.Walker, Walker.walker_of}
 use Rattle.mc_pull.specs.Settled.{IsSettled, events_with, done_stripe_events}
-use Rattle.mc_pull.specs.declared.judge.Done.{Done}
+use Rattle.mc_pull.specs.declared.{judge.Done.Done, lone.Lone.Lone, looking.Answer.Answer}
 use Rattle.mc_pull.specs.declared.judge.Done.TheVariants as done
 
 all_both : (w : Walker) (xs ys : List StripeEvent) → AreMadeBy w xs → AreMadeBy w ys → AreMadeBy w (xs ++ ys)
@@ -46,6 +46,25 @@ walked_survey w a b x y survey walked = record {
   grows = walked.grows;
   own = λ agree. agree_surveyed a.site w.rule w.class b.history y (walked.own agree) survey;
   others = walked.others;
+}
+
+-- ---- what the gate answered
+-- nothing yet
+pub alone_itself : (g : Lone) → AnswersAlone g g
+alone_itself g = record { number_is = refl; answers = []; answers_are = sym (append-nil g.answers.now); each = All-nil (IsAnsweredAlone g.number) }
+
+-- nothing more
+pub alone_later : (g h k : Lone) → AnswersAlone g h → k.number ≡ h.number → k.answers.now ≡ h.answers.now → AnswersAlone g k
+alone_later g h k before number same = record { number_is = number ∙ before.number_is; answers = before.answers; answers_are = same ∙ before.answers_are; each = before.each }
+
+-- one answer more
+pub alone_more : (g h k : Lone) (a : Answer) → AnswersAlone g h → k.number ≡ h.number → k.answers.now ≡ h.answers.now ++ a ∷ [] → IsAnsweredAlone h.number a
+    → AnswersAlone g k
+alone_more g h k a before number more told = record {
+  number_is = number ∙ before.number_is;
+  answers = before.answers ++ a ∷ [];
+  answers_are = more ∙ (ap (λ (xs : List Answer). xs ++ a ∷ []) before.answers_are ∙ append_assoc g.answers.now before.answers (a ∷ []));
+  each = All-push (IsAnsweredAlone g.number) before.answers a before.each (subst (λ (n : StripeNo). IsAnsweredAlone n a) before.number_is told);
 }
 
 -- ---- a judgement

@@ -19,11 +19,11 @@ use Rattle.mc_pull.specs.{Parts.is_here, Parts.part_for, Parts.places_of, Perfor
 abbrev pub HasFree : ClassView → Type 0
 HasFree v = rules.HasFree v.chunks v.history
 
--- a class gives this room: its next link if a chunk is free, the refusal that it noted of this call, or nothing if neither
+-- a class gives this room: its next link if a chunk is free, else the refusal that it noted of this call, or nothing if there is none
 abbrev pub GivesHome : ClassView → Option ℕ → Who → Room → Type 0
 GivesHome v refused who (rooms.At link) = (link ≡ record { class = v.number; number = entries_linked v.history }) × HasFree v
 GivesHome v refused who (rooms.Refused class place) =
-    (class ≡ v.number) × (refused ≡ Some place) × (slice_get v.history place ≡ Some (class_events.Refused (record { who = who })))
+    (class ≡ v.number) × (refused ≡ Some place) × (slice_get v.history place ≡ Some (class_events.Refused (record { who = who }))) × (HasFree v → ⊥)
 GivesHome v refused who rooms.Keep = (refused ≡ None) × (HasFree v → ⊥)
 
 -- the class's history has places for this many more events: at most `most`, and fewer only if there are no more

@@ -1,12 +1,14 @@
 -- A gate that is lent one stripe, and reaches no other.
-use Rattle.std.specs.Prelude.{ℕ, ◌≡◌, ◌≢◌, ◌++◌, List, [], ◌∷◌}
-use Rattle.mc_item.specs.declared.{class_event.ClassEvent.ClassEvent, config.Config.Config, item.ClassNo.ClassNo, stripe_event.Cause.Cause}
+use Rattle.std.specs.Prelude.{ℕ, ◌≡◌, ◌≢◌, ◌++◌, ◌↔◌, List, [], ◌∷◌, IsSome}
+use Rattle.std.specs.List.{All}
+use Rattle.mc_item.specs.declared.{class_event.ClassEvent.ClassEvent, config.Config.Config, item.ClassNo.ClassNo, item.StripeNo.StripeNo}
+use Rattle.mc_item.specs.declared.stripe_event.Cause.{Cause}
 use Rattle.mc_item.specs.declared.{stripe_event.Cause.TheVariants.Expired, stripe_event.Cause.TheVariants.Taken, stripe_event.StripeEvent.StripeEvent}
 use Rattle.mc_item.specs.declared.stripe_event.StripeEvent.TheVariants as events
 use Rattle.mc_rule.specs.{Agreement.Agree, Segment.Rule}
 use Rattle.mc_stripe.specs.{StripeState.Stripe, StripeCalls.KeepsSite}
 use Rattle.mc_segment.specs.ClassState.{ClassView}
-use Rattle.mc_pull.specs.declared.lone.Lone.{Lone}
+use Rattle.mc_pull.specs.declared.{lone.Lone.Lone, looking.Answer.Answer}
 use Rattle.mc_pull.specs.{Question.IsClassOf, Question.IsStripeOf, Walker.Walker}
 
 -- the stripe has this number, and was made with this configuration
@@ -44,14 +46,26 @@ pub record Walked (w : Walker) (s : Stripe) (history : List ClassEvent) (s_new :
   pub others : (other : ClassNo) (rule : Rule) (entries : List ClassEvent) → other ≢ w.class → Agree s.site rule other s.history entries
       → Agree s.site rule other s_new.history entries
 
+-- an answer of a gate that is lent the stripe with this number: just that stripe was reached
+abbrev pub IsAnsweredAlone : StripeNo → Answer → Type 0
+IsAnsweredAlone number a = IsSome a.judged ↔ (a.stripe ≡ number)
+
+-- what a gate that is lent one stripe answered: it reached that stripe each time that it was asked for it, and no other
+pub record AnswersAlone (gate gate_new : Lone) : Type 0 where
+  pub number_is : gate_new.number ≡ gate.number
+  pub answers : List Answer
+  pub answers_are : gate_new.answers.now ≡ gate.answers.now ++ answers
+  pub each : All (IsAnsweredAlone gate.number) answers
+
 -- a class may be walked through a gate that is lent one stripe: both were made with this configuration
 pub record IsServedAlone (gate : Lone) (config : Config) (c : ClassView) : Type 0 where
   pub class : IsClassOf config c
   pub serves : Serves gate.number.0 gate.stripe.now config
 
--- what a walker leaves of a gate that is lent one stripe, and of a class's history: the gate holds and serves the stripe still, and
--- the walker did no more than `Walked` says
+-- what a walker leaves of a gate that is lent one stripe, and of a class's history: the gate holds and serves the stripe still, it
+-- reached the stripe whenever asked for it, and the walker did no more than `Walked` says
 pub record LeavesAlone (w : Walker) (config : Config) (gate : Lone) (history : List ClassEvent) (gate_new : Lone) (history_new : List ClassEvent) : Type 0 where
   pub holds : gate_new.stripe.ghost_name ≡ gate.stripe.ghost_name
   pub walked : Walked w gate.stripe.now history gate_new.stripe.now history_new
+  pub answers : AnswersAlone gate gate_new
   pub serves : Serves gate_new.number.0 gate_new.stripe.now config

@@ -1,5 +1,5 @@
 //! Advances the entry of an item that was hit.
-ghost use Rattle.std.specs.Prelude.{◌≡◌, ◌++◌, List, false, IfOk, IfErr, IfSome, OnErr, option_copied};
+ghost use Rattle.std.specs.Prelude.{◌≡◌, ◌++◌, List, None, false, IfOk, IfErr, IfSome, OnErr, option_copied};
 ghost use Rattle.mc_item.specs.declared.lists.Seg.TheVariants.{Cold};
 ghost use Rattle.mc_rule.specs.Lists.{find, found, lists_of};
 ghost use Rattle.mc_segment.specs.ClassState.{with_room};
@@ -37,8 +37,8 @@ fn is_to_warm(done: Option<Done>) -> bool
 }
 
 /// Moves the entry of an item that was hit from COLD to WARM's head, with the moment as its time, clears the item's ACTIVE
-/// mark, and returns true. It looks at the entry once, if it is in COLD, through the gate. If the stripe isn't reached, or its
-/// item has another link, isn't ACTIVE or is dead at the moment, it returns false and changes nothing.
+/// mark, and returns true. It looks at the entry once, if it is in COLD, through the gate. If it isn't in COLD, the stripe isn't
+/// reached, or its item has another link, isn't ACTIVE or is dead at the moment, it returns false and changes nothing.
 /// Errors: the gate's faults. Nothing has changed then.
 pub fn advance<G: Gate>(
     context: Context<'_>,
@@ -51,6 +51,7 @@ pub fn advance<G: Gate>(
         context.entry) number class.old.history xs class.new.history moved) }
     ensures err { OnErr result ((class.new ≡ with_room class.old class.new.room) × (G.answers gate.new ≡ G.answers gate.old)) }
     ensures gains { GainsFor false class.old class.new }
+    ensures absent { find number (lists_of class.old.history).cold ≡ None → (class.new ≡ class.old) × (gate.new ≡ gate.old) }
     ensures fault { IfErr result (G.faults gate.new class.new) }
     ensures gate { LeavesGate G.references G.serves G.keeps context.entry.config.now (walker_by class.old context.entry) gate.old class.old gate.new class.new }
 {

@@ -2,7 +2,7 @@
 //! command is made, with its part in each class, or it wants something and nothing has happened. A hit has no part in any class:
 //! the try returns the link of the item that it woke. All memory is taken first, so nothing has happened after a fault either.
 //! `HistoryFull` comes only if the stripe's history has no place left.
-ghost use Rattle.std.specs.Prelude.{if◌then◌else◌, ◌≡◌, ◌≤◌, ◌<◌, ◌↔◌, ◌∷◌, [], true, Some, None, IfOk, OnErr, OnOk, IsErrOf, length};
+ghost use Rattle.std.specs.Prelude.{if◌then◌else◌, ◌≡◌, ◌≤◌, ◌<◌, ◌↔◌, ◌∷◌, [], true, Some, None, IfOk, OnErr, OnOk, IsErrOf, IsOk, length};
 ghost use Rattle.mc_item.specs.Command.{key_of};
 ghost use Rattle.mc_item.specs.declared.{config.Config.Config, fault.Fault.TheVariants.HistoryFull};
 ghost use Rattle.mc_segment.specs.ClassState.{with_room};
@@ -91,12 +91,14 @@ pub fn offer_other(class: &ClassState) -> Other
 }
 
 /// Makes room in a class for a command's events: for two, or for fewer if its history has no more places. Errors: `NoMemory`
-/// only. Nothing but the room ever changes.
+/// only, and only if there was room for fewer than two. Nothing but the room ever changes, and it doesn't shrink.
 #[inline(always)]
 pub fn ready(class: &mut ClassState) -> Result<(), Fault>
     ensures ready { OnOk result (IsReady class.new) }
     ensures same { class.new ≡ with_room class.old class.new.room }
     ensures memory { IsErrOf result HistoryFull → ⊥ }
+    ensures kept { class.old.room ≤ class.new.room }
+    ensures succeeds { 2 ≤ class.old.room → IsOk result }
 {
     let places = places(class, 2);
     class.reserve(places)

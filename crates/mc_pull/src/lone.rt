@@ -25,7 +25,7 @@ pub struct Lone<'a> {
 
 impl<'a> Gate for Lone<'a> {
     ghost use Rattle.std.specs.Prelude.{◌≡◌, ◌∷◌, []};
-    ghost use Rattle.mc_pull.specs.{Lone.Serves, Lone.Walked, Refusal.MayFail};
+    ghost use Rattle.mc_pull.specs.{Lone.AnswersAlone, Lone.Serves, Lone.Walked, Refusal.MayFail};
 
     ghost answers = { λ g. g.answers.now };
 
@@ -37,7 +37,7 @@ impl<'a> Gate for Lone<'a> {
 
     ghost faults = { λ g c. MayFail c g.stripe.now };
 
-    ghost keeps = { λ w g begun h history. Walked w g.stripe.now begun h.stripe.now history };
+    ghost keeps = { λ w g begun h history. Walked w g.stripe.now begun h.stripe.now history × AnswersAlone g h };
 
     fn visit(&mut self, stripe: StripeNo, look: &mut Look<'_>) -> Result<bool, Fault> {
         if stripe.0 != self.number.0 {
@@ -59,7 +59,7 @@ impl<'a> Gate for Lone<'a> {
 
 impl<'a> Lone<'a> {
     /// Makes room in a class as `make_room` does. As this gate has a single stripe, the contract adds: the gate still holds it,
-    /// it has gained only events of this call, and histories that agreed with it still agree.
+    /// it was reached whenever asked for, it has gained only events of this call, and histories that agreed with it still agree.
     pub fn make_room(&mut self, context: Context<'_>, class: &mut ClassState) -> Result<bool, Fault>
         requires gate { IsServedAlone self.old context.config.now class.old }
         ensures room { IfOk result (λ found. (xs : List Answer) × (self.new.answers.now ≡ self.old.answers.now ++ xs) × IsRoom (rounds_by

@@ -1,10 +1,11 @@
 use Rattle.std.proofs.Common.{rules}
 use Rattle.mc_pull.specs.Walker.{walker_by}
-use Rattle.mc_pull.proofs.OneStripeGateLemmas.{walked_itself}
+use Rattle.mc_pull.proofs.OneStripeGateLemmas.{alone_itself, walked_itself}
 use Rattle.mc_pull.proofs.lone.Lone.make_room.Goals as goal
 
 pub returns-clause-walked : goal.returns-clause-walked
 returns-clause-walked c =
     let left = c.make_room.ensures.gate in
     let w = walker_by c.args.class.now c.args.context in
-    record { holds = search rules; walked = left.kept c.args.self.now c.args.class.now.history (walked_itself w c.args.self.now.stripe.now c.args.class.now.history); serves = left.serves }
+    let kept = left.kept c.args.self.now c.args.class.now.history (walked_itself w c.args.self.now.stripe.now c.args.class.now.history, alone_itself c.args.self.now) in
+    record { holds = search rules; walked = kept.0; answers = kept.1; serves = left.serves }
