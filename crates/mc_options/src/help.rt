@@ -14,10 +14,10 @@ when the input has ended and its scripts have run.
   get, gets <key>..    gat, gats <exptime> <key>..    touch <key> <exptime>    delete <key>    quit
   set, add, replace, append, prepend <key> <flags> <exptime> <bytes>    incr, decr <key> <delta>
   cas <key> <flags> <exptime> <bytes> <cas number>
-A line ends in CR LF or in LF. After a storage line (set to prepend, and cas) comes its block: as
-many bytes as the line says, then CR LF. After a line that is refused no block is skipped. All lines
-but those of get, gets, gat, gats, quit and directives may end in the word noreply. Then nothing is
-printed for the line, except ERROR for a wrong number of words.
+A line ends in CR LF or in LF. After a line with <bytes> comes its block: as many bytes as the line
+says, then CR LF. After a line that is refused no block is skipped. All lines but those of get,
+gets, gat, gats, quit and directives may end in the word noreply. Then nothing is printed for the
+line, except ERROR for a wrong number of words.
 
 Directives are lines in the place of a command:
   %at <second>      sets the time, at first 1000, for what follows; it has no reply
@@ -35,20 +35,20 @@ Slab classes are numbered from 1, in the order of their sizes.
 The input is cut at each %next into scripts. They run at the same time, each as a caller of its own
 that begins at the time 1000. Replies are printed script by script when all have ended. quit ends
 the script: what follows it up to a %next is ignored. With --upkeep the maintainer juggles and the
-crawler crawls every slab class at each of the times in order, beside the scripts. Neither prints
-anything.
+crawler crawls every slab class at each of the times in order, beside the scripts. They don't wait
+for the scripts' times, and print nothing.
 
 With --follow the input is one script, and is answered as it comes: before the program reads on, it
-prints the replies to all requests that are whole. %next or quit ends the program at once.
+prints the replies to all requests that are whole. %next or quit ends the script.
 
 Limits:
   key           1 to 250 bytes, none of them NUL, LF, CR or space
   line          65,536 bytes before its LF
-  flags         below 2^32
+  flags         below 2^32, at most 20 digits
   exptime       1 to 18 digits with or without a minus sign: 0 is never, up to 2,592,000 are seconds
                 from now on, a larger number is a time, and below 0 the item is dead at once
   value         the size of the largest slab class, less 64 bytes and those of the key
-  delta         below 2^64, as a cas number
+  delta         below 2^64, at most 20 digits, as a cas number
   time          0 to 2^62 seconds
   scripts       1 to 62
   upkeep        1 to 1,000 times
@@ -84,10 +84,10 @@ Exit statuses, and the lines on standard error:
          2 sizes     1 to 63 of them, each larger than the one before, from 65 to 1,048,576
          3 chunks    as many limits as sizes, each from 1 to 1,048,576
          4 percents  each from 1 to 99, together at most 99
-         5 factors   up to 10,000, and 1 to 2,592,000 seconds in TEMP
+         5 factors   up to 10,000, and --temp-ttl from 1 to 2,592,000 seconds
          6 callers   1 to 64
          7 events    16 to 4,294,967,296
-  3  reading or writing failed, or the system gave no random numbers
+  3  reading or writing failed, or the system gave no words or no random numbers
        mcseg: input failed
        mcseg: output failed
        mcseg: no words of the command line: <why>

@@ -189,11 +189,11 @@ fn plan_of(config: Config, upkeep: Numbers, follow: bool) -> Result<Plan, PlanFa
     }
 }
 
-/// Makes the plan that the options ask for. Without options that is the usual configuration, of one stripe and 3 callers, no
-/// upkeep, and an input that is answered once it has ended. `sizes` has the slab classes' sizes in bytes, such as "96,1024",
-/// instead of the usual 43. `upkeep` has the times at which maintainer and crawler work: at most 1,000, each at most 2^62. Both
-/// are decimal numbers with one comma between two, and nothing else. The other options are in `options`; if its `chunks` are
-/// absent, each class has 1,024.
+/// Makes the plan that the options ask for. It keeps no events. Otherwise it is, without options, the usual configuration, of one
+/// stripe and 3 callers, no upkeep, and an input that is answered once it has ended. `sizes` has the slab classes' sizes in bytes,
+/// such as "96,1024", instead of the usual 43. `upkeep` has the times for which maintainer and crawler work: at most 1,000, each at
+/// most 2^62. Both are decimal numbers with one comma between two, and nothing else. The other options are in `options`. If its
+/// `chunks` are absent, each class has 1,024.
 ///
 /// *Errors*: `List` if a text is no such list, whatever the other options are. Otherwise `Configuration` if the sizes or a number
 /// are out of range. `NoMemory` if memory is refused.

@@ -195,8 +195,9 @@ fn options_of(matches: &ArgMatches) -> Options
     }
 }
 
-/// Reads the words of the command line, the first of which is the program's name, and makes the plan that they ask for. That is
-/// the usual configuration, no upkeep and an input that is answered once it has ended, changed as the options say.
+/// Reads the words of the command line, the first of which is the program's name, and makes the plan that they ask for. It keeps
+/// no events. Otherwise it is the usual configuration, no upkeep and an input that is answered once it has ended, changed as the
+/// options say.
 ///
 /// *Errors*: `Words` if `clap` refuses the words, has the help or the version to show, or runs out of memory. Otherwise `List` if
 /// the sizes or the times of upkeep are no list as `plan_for` takes it. Otherwise `Configuration` if the sizes or a number are
