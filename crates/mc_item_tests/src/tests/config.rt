@@ -42,7 +42,7 @@ fn checked(rt: &impl Abort, alloc: Global) -> Config {
 }
 
 #[test]
-fn usual_numbers(rt: HostRuntime) {
+fn the_usual_configuration_has_one_stripe(rt: HostRuntime) {
     let alloc = rt.alloc();
     let config = checked(&rt, alloc);
     let limits = text_of_limits(&rt, alloc, &config);
@@ -54,7 +54,7 @@ fn usual_numbers(rt: HostRuntime) {
 }
 
 #[test]
-fn usual_sizes_and_chunks(rt: HostRuntime) {
+fn the_usual_classes_grow_by_a_quarter(rt: HostRuntime) {
     let config = checked(&rt, rt.alloc());
     same_numbers(&rt, config.sizes.as_slice(), SIZES.as_slice());
     same_numbers(&rt, config.chunks.as_slice(), CHUNKS.as_slice());

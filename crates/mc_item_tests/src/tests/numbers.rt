@@ -26,14 +26,14 @@ fn same_class(rt: &impl Abort, seen: Option<ClassNo>, wanted: Option<ClassNo>, c
 }
 
 #[test]
-fn classes_of_costs(rt: HostRuntime) {
+fn a_cost_goes_to_the_smallest_class_that_holds_it(rt: HostRuntime) {
     for (cost, wanted) in CLASSES.as_slice() {
         same_class(&rt, usual_class(&rt, rt.alloc(), *cost), *wanted, *cost);
     }
 }
 
 #[test]
-fn the_cost_of_the_longest_key(rt: HostRuntime) {
+fn a_cost_is_64_bytes_and_those_of_key_and_value(rt: HostRuntime) {
     assert_eq!(rt; cost(250, 1), 315);
 }
 
@@ -46,7 +46,7 @@ static EXPIRIES: [(i64, Expiry); 5] = [
 ];
 
 #[test]
-fn expiries(rt: HostRuntime) {
+fn an_exptime_is_relative_up_to_30_days(rt: HostRuntime) {
     for (exptime, wanted) in EXPIRIES.as_slice() {
         assert_eq!(rt; expiry_of(*exptime, 1_000), *wanted, "{exptime}");
     }
@@ -67,7 +67,7 @@ fn check_deaths(rt: &impl Abort, one: &mut Item, rows: &[(Expiry, u64, bool)]) {
 }
 
 #[test]
-fn deaths(rt: HostRuntime) {
+fn an_item_is_dead_from_its_expiry_on(rt: HostRuntime) {
     let mut one = item(&rt, rt.alloc(), b"x", NO_MARKS);
     check_deaths(&rt, &mut one, DEATHS.as_slice());
 }
@@ -99,7 +99,7 @@ fn check_numerals(rt: &impl Abort, rows: &[(&[u8], Option<u64>)]) {
 }
 
 #[test]
-fn numerals(rt: HostRuntime) {
+fn a_numeral_is_digits_and_then_spaces(rt: HostRuntime) {
     check_numerals(&rt, NUMERALS.as_slice());
 }
 
@@ -116,7 +116,7 @@ const BOTH: Marks = Marks {
 static HITS: [(Marks, Marks); 3] = [(NO_MARKS, FETCHED), (FETCHED, BOTH), (BOTH, BOTH)];
 
 #[test]
-fn hits_of_marks(rt: HostRuntime) {
+fn a_hit_sets_fetched_and_the_next_active(rt: HostRuntime) {
     for (before, after) in HITS.as_slice() {
         assert_eq!(rt; before.hit(), *after, "{before:?}");
     }
@@ -127,7 +127,7 @@ fn same_list(rt: &impl Abort, seen: &[u64], wanted: &[u64]) {
 }
 
 #[test]
-fn short_lists(rt: HostRuntime) {
+fn short_lists_give_back_their_numbers(rt: HostRuntime) {
     same_list(&rt, Passed::of(&[]).as_slice(), &[]);
     same_list(&rt, Passed::of(&[4, 3, 2, 1]).as_slice(), &[4, 3, 2, 1]);
     same_list(&rt, ClassSizes::of(&[96, 120]).as_slice(), &[96, 120]);
@@ -147,7 +147,7 @@ fn text_of_others(rt: &impl Abort, alloc: Global, counts: &Histogram) -> String 
 }
 
 #[test]
-fn sums_of_counts(rt: HostRuntime) {
+fn a_sum_adds_each_count(rt: HostRuntime) {
     let mut sum = Histogram::new();
     let mut other = Histogram::new();
     other.minutes[0] = 1;

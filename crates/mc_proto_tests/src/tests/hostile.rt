@@ -98,7 +98,7 @@ static KEYS_THAT_ARE_NONE: [Case; 6] = [
 ];
 
 #[test]
-fn keys_that_are_none(rt: HostRuntime) {
+fn tokens_that_are_no_key_are_refused(rt: HostRuntime) {
     compare(&rt, rt.alloc(), KEYS_THAT_ARE_NONE.as_slice());
 }
 
@@ -143,7 +143,7 @@ static NUMBERS_THAT_ARE_NONE: [Case; 10] = [
 ];
 
 #[test]
-fn numbers_that_are_none(rt: HostRuntime) {
+fn tokens_that_are_no_number_are_refused(rt: HostRuntime) {
     compare(&rt, rt.alloc(), NUMBERS_THAT_ARE_NONE.as_slice());
 }
 
@@ -171,7 +171,7 @@ static VERBS_THAT_ARE_NONE: [Case; 5] = [
 ];
 
 #[test]
-fn verbs_that_are_none(rt: HostRuntime) {
+fn words_that_are_no_verb_are_errors(rt: HostRuntime) {
     compare(&rt, rt.alloc(), VERBS_THAT_ARE_NONE.as_slice());
 }
 

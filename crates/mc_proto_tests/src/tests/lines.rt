@@ -49,7 +49,7 @@ static LINES_AND_GETS: [Case; 19] = [
 ];
 
 #[test]
-fn lines_and_gets(rt: HostRuntime) {
+fn get_lines_are_read(rt: HostRuntime) {
     compare(&rt, rt.alloc(), LINES_AND_GETS.as_slice());
 }
 
@@ -99,7 +99,7 @@ static GATS: [Case; 21] = [
 ];
 
 #[test]
-fn gats(rt: HostRuntime) {
+fn gat_lines_are_read(rt: HostRuntime) {
     compare(&rt, rt.alloc(), GATS.as_slice());
 }
 
@@ -202,7 +202,7 @@ static OTHER_COMMANDS: [Case; 21] = [
 ];
 
 #[test]
-fn other_commands(rt: HostRuntime) {
+fn other_lines_are_read(rt: HostRuntime) {
     compare(&rt, rt.alloc(), OTHER_COMMANDS.as_slice());
 }
 
@@ -226,7 +226,7 @@ static DIRECTIVES: [Case; 16] = [
 ];
 
 #[test]
-fn directives(rt: HostRuntime) {
+fn directives_are_read(rt: HostRuntime) {
     compare(&rt, rt.alloc(), DIRECTIVES.as_slice());
 }
 

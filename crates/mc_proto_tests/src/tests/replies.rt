@@ -86,7 +86,7 @@ fn check_fault(rt: &impl Abort, alloc: Global, why: LineFault, want: &[u8], plac
 }
 
 #[test]
-fn faults(rt: HostRuntime) {
+fn each_fault_has_its_line(rt: HostRuntime) {
     for (place, (why, want)) in FAULTS.as_slice().iter().enumerate() {
         check_fault(&rt, rt.alloc(), *why, *want, place);
     }
@@ -114,7 +114,7 @@ fn check_value(rt: &impl Abort, alloc: Global, reply: &Reply, with_cas: bool, wa
 }
 
 #[test]
-fn values(rt: HostRuntime) {
+fn a_value_has_its_line_and_its_bytes(rt: HostRuntime) {
     let alloc = rt.alloc();
     let reply = last_value(&rt, alloc, b"a\r\nb");
     let plain = b"VALUE k 4294967295 4\r\na\r\nb\r\n".as_slice();
@@ -202,7 +202,7 @@ fn push_listed(rt: &impl Abort, out: &mut Vec<u8>, keys: Keys) {
 }
 
 #[test]
-fn keys_come_back(rt: HostRuntime) {
+fn keys_come_back_alone_or_as_a_list(rt: HostRuntime) {
     let alloc = rt.alloc();
     let mut out = Vec::new(alloc);
     push_listed(&rt, &mut out, Keys::one(key(&rt, alloc, b"k")));
@@ -220,7 +220,7 @@ static MOVES: Moves = Moves {
 };
 
 #[test]
-fn upkeep(rt: HostRuntime) {
+fn moves_have_a_line(rt: HostRuntime) {
     let got = moves_text(rt.alloc(), &MOVES).expect(&rt, "memory");
     same(&rt, got.as_slice(), b"JUGGLED 3 500\r\n", "moves", 0);
     let mut out = Vec::new(rt.alloc());

@@ -23,7 +23,7 @@ static JUGGLED: [Row; 4] = [
 ];
 
 #[test]
-fn six_items_juggled(rt: HostRuntime) -> Result<(), Fail> {
+fn six_items_are_juggled_by_the_rule(rt: HostRuntime) -> Result<(), Fail> {
     let alloc = rt.alloc();
     play(
         &rt,
@@ -240,7 +240,7 @@ fn walk_by<R: Abort + RandomSource>(rt: &R, alloc: Global, digits: u32) -> Resul
 }
 
 #[test]
-fn walks_by_all_answers(rt: HostRuntime) -> Result<(), Fail> {
+fn each_answer_ends_a_walk_or_lets_it_go_on(rt: HostRuntime) -> Result<(), Fail> {
     for digits in 0..32 {
         walk_by(&rt, rt.alloc(), digits)?;
     }

@@ -364,6 +364,6 @@ static FOUND: [Row; 7] = [
 ];
 
 #[test]
-fn items_that_are_there(rt: HostRuntime) {
+fn each_command_answers_by_the_item_that_is_there(rt: HostRuntime) {
     check_rows(&rt, rt.alloc(), FOUND.as_slice());
 }
