@@ -8,7 +8,9 @@ use crate::asking::Asked::{Delete, Gat, Get, Incr, Store, Touch};
 use crate::plain::Plain;
 use crate::readers::Piece::{self, Given, Lent};
 use crate::stores::Called::{self, Command};
-use Call::{FoundText, Make, OpenStore, OpenTokens, Read, Shared, Value, World};
+use Call::{
+    CopyCommand, CopyKey, FoundText, Make, OpenStore, OpenTokens, Read, Shared, Split, Value, World,
+};
 use mc_item::Verb::{Append, Prepend, Set};
 
 /// A case's call, with what comes before it.
@@ -17,6 +19,9 @@ pub(crate) enum Call {
     /// Nothing comes before.
     Make(Plain),
     Value,
+    CopyKey,
+    CopyCommand,
+    Split,
     FoundText,
     OpenTokens,
     OpenStore,
@@ -113,16 +118,21 @@ pub(crate) fn cases() -> &'static [(&'static str, Call)] {
     CASES.as_slice()
 }
 
-static CASES: [(&str, Call); 57] = [
+static CASES: [(&str, Call); 63] = [
     ("key", Make(Plain::Key)),
+    ("key_copy", CopyKey),
     ("value", Value),
+    ("command_copy", CopyCommand),
     ("usual_configuration", Make(Plain::Config)),
+    ("plan", Make(Plain::Plan)),
+    ("words", Make(Plain::Words)),
     ("reply_text", Make(Plain::Reply)),
     ("value_text", FoundText),
     ("fault_text", Make(Plain::Fault)),
     ("moves_text", Make(Plain::Moves)),
     ("histogram_text", Make(Plain::Histogram)),
     ("chunks_text", Make(Plain::Chunks)),
+    ("scripts", Split),
     ("feed_of_a_line", Read("get a", Lent(LINES))),
     ("feed_of_a_block", Read(BEGUN, Lent(BLOCK))),
     ("take_of_a_line", Read("get a", Given(LINES))),
@@ -161,6 +171,7 @@ static CASES: [(&str, Call); 57] = [
     ("snapshot", World(STORED, TakeLinks)),
     ("crawl_one", World(DEAD, Crawl)),
     ("board_open", Make(Plain::Board)),
+    ("queues_open", Make(Plain::Queues)),
     ("tokens_open", OpenTokens),
     ("store_open", OpenStore),
     ("store_get", Shared(&[SET_SHARED], GET_SHARED)),

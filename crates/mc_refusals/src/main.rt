@@ -15,6 +15,7 @@ mod asking;
 mod cases;
 mod classes;
 mod configuring;
+mod copies;
 mod end;
 mod forgetting;
 mod judging;
@@ -48,6 +49,9 @@ fn outcome_of(rt: &HostRuntime, wait: &impl Wait, call: Call) -> Option<Outcome>
     match call {
         Call::Make(plain) => Some(outcome_by(plain::make(alloc, plain, marks))),
         Call::Value => Some(outcome_by(plain::value(alloc, marks))),
+        Call::CopyKey => Some(outcome_by(copies::key(alloc, marks))),
+        Call::CopyCommand => Some(outcome_by(copies::command(alloc, marks))),
+        Call::Split => Some(outcome_by(copies::scripts(alloc, marks))),
         Call::FoundText => Some(outcome_by(plain::found_text(alloc, marks))),
         Call::OpenTokens => Some(outcome_by(plain::tokens(alloc, marks))),
         Call::OpenStore => Some(outcome_by(stores::open(rt, marks))),

@@ -6,7 +6,9 @@ use crate::configuring::store_config;
 use crate::end::{End, end_by};
 use crate::marks::Marks;
 use mc_board::{Board, Counts};
+use mc_hits::Queues;
 use mc_item::{ClassNo, Config, Histogram, Key, KeyFault, Moves, Reply, Value};
+use mc_options::{Options, PlanFault, WordsFault, plan_for, read_words};
 use mc_proto::{
     LineFault, chunks_text, fault_text, histogram_text, moves_text, reply_text, value_text,
 };
@@ -18,6 +20,10 @@ use std::alloc::Global;
 pub(crate) enum Plain {
     Key,
     Config,
+    /// Sizes and times of upkeep are read.
+    Plan,
+    /// The words of a command line are read.
+    Words,
     Reply,
     Fault,
     Moves,
@@ -25,6 +31,8 @@ pub(crate) enum Plain {
     Chunks,
     /// A board of three locks is opened.
     Board,
+    /// Two queues for two callers are opened.
+    Queues,
 }
 
 const COUNTS: Counts = Counts {
@@ -47,16 +55,45 @@ fn key(alloc: Global) -> End {
     }
 }
 
+const NO_OPTIONS: Options = Options {
+    stripes: None,
+    chunks: None,
+    temp: false,
+    temp_ttl: None,
+    events: None,
+    follow: false,
+};
+
+fn plan(alloc: Global) -> End {
+    match plan_for(alloc, Some(b"96,120"), Some(b"1000,1001"), NO_OPTIONS) {
+        Ok(_) => End::Made,
+        Err(PlanFault::NoMemory) => End::Refused,
+        Err(_) => End::Other,
+    }
+}
+
+// Reads words that are taken. Where `clap` finds no memory, it refuses the words.
+fn words(alloc: Global) -> End {
+    match read_words(alloc, &["mcseg", "--sizes", "96,120", "--follow"]) {
+        Ok(_) => End::Made,
+        Err(WordsFault::NoMemory | WordsFault::Words(_)) => End::Refused,
+        Err(_) => End::Other,
+    }
+}
+
 fn end_after(alloc: Global, call: Plain) -> End {
     match call {
         Plain::Key => key(alloc),
         Plain::Config => end_by(Config::usual(alloc, 1)),
+        Plain::Plan => plan(alloc),
+        Plain::Words => words(alloc),
         Plain::Reply => end_by(reply_text(alloc, &Reply::Number(7))),
         Plain::Fault => end_by(fault_text(alloc, LineFault::Chunk)),
         Plain::Moves => end_by(moves_text(alloc, &MOVES)),
         Plain::Histogram => end_by(histogram_text(alloc, &Histogram::new())),
         Plain::Chunks => end_by(chunks_text(alloc, ClassNo(1), 2)),
         Plain::Board => end_by(Board::open(alloc, COUNTS)),
+        Plain::Queues => end_by(Queues::open(alloc, 2, 4, 2)),
     }
 }
 
