@@ -15,16 +15,17 @@ use Rattle.mc_evidence.proofs.SeenLemmas.{class_events-map, classes_grow, stripe
 use Rattle.mc_pull.specs.Rounds.{Rounds, rounds}
 use Rattle.mc_script.specs.Exchanges.{Asks, Begun, Crawls, Juggles, Limits, ScriptCall}
 use Rattle.mc_segment.specs.ClassState.{ClassView}
-use Rattle.mc_stripe.specs.{Plan.visible_row, StripeState.stripe}
+use Rattle.mc_stripe.specs.{Plan.visible_row, StripeState.Stripe, StripeState.stripe}
 use Rattle.mc_store.specs.{Accounts.IsOfCommand, Accounts.Stretch, Calls.IsCutBy, Calls.IsJuggleCut, Calls.IsJuggledTill, Calls.IsLimitedBy, Calls.IsUpkeepCut}
 use Rattle.mc_segment.specs.ClassState.{opened}
 use Rattle.mc_store.specs.{Crawls.AreLinksCounted, Crawls.IsCrawledTill, Hits.AreAdvanced, Locked.class_lock, Locked.setting_of, Passes.PassView}
-use Rattle.mc_store.specs.{Passes.next_who, Reached.IsSeenState, Reached.seen_stripes, Searches.IsSearchUpTo, Sides.class_told, Sides.stripe_told}
-use Rattle.mc_store.proofs.{EarnedRefusalLemmas.opened_again, LockKeepsLemmas.site_of_number, SyncedStepLemmas.map_length}
-use Rattle.mc_driver.specs.{Caller.EntersOnly, Caller.IsBefore, Caller.histories_seen, Cut.NotesJugglingCut, Cut.NotesSearchUpTo}
+use Rattle.mc_store.specs.{Passes.next_who, Reached.IsSeenState, Reached.IsStateBetween, Reached.seen_stripes, Sides.class_told, Sides.stripe_told}
+use Rattle.mc_store.specs.Searches.{IsSearchUpTo, Searcher, rounds_in, searcher, sight_of}
+use Rattle.mc_store.proofs.{EarnedRefusalLemmas.broken_more, EarnedRefusalLemmas.opened_again, LockKeepsLemmas.site_of_number, SyncedStepLemmas.map_length}
+use Rattle.mc_driver.specs.{Caller.EntersOnly, Caller.IsBefore, Caller.histories_seen, Cut.NotesJugglingCut, Cut.NotesSearchUpTo, Searched.with_stripe}
 use Rattle.mc_driver.specs.Stand.{BreaksOffAfter, stripe_number}
 use Rattle.mc_driver.proofs.{EnteredCallLemmas.entered_only, EnteredCallLemmas.stands_within, NotedPlaceLemmas.class_begins, NotedPlaceLemmas.stripe_begins}
-use Rattle.mc_driver.proofs.SeenByCallLemmas.{led_up_there, search_there, seen_grow}
+use Rattle.mc_driver.proofs.SeenByCallLemmas.{led_up_there, own_states, search_there, seen_grow}
 
 abbrev begun_call : ScriptCall → ℕ → Begun
 begun_call call moment = record { call = call; moment = moment }
@@ -37,10 +38,10 @@ class_seen_begins config sight class history begins =
     (classes_grow config.stripes (λ lock. class_told history) (λ lock. list_at sight.seen (class_lock config class)) (λ lock. begins) class)
 
 -- a search for a chunk that a fault may have broken off, as a pass has seen it, stands in what it has seen
-search_up_to_there : (config : Config) (need : Need) (who : Who) (moment : ℕ) (sight : Sight) (stretch : Stretch) → IsSearchUpTo config need who moment sight stretch
-    → NotesSearchUpTo config need (classes_seen config.stripes (list_at sight.seen)) who moment stretch
-search_up_to_there config need who moment sight stretch (inl one) = inl (search_there config need who moment sight stretch one)
-search_up_to_there config need who moment sight stretch (inr some) =
+search_up_to_there : (by : Searcher) (need : Need) (s : Stripe) (seen sight : Sight) (stretch : Stretch) → IsSearchUpTo by need (sight_of by seen s) sight stretch
+    → NotesSearchUpTo by need (with_stripe by.number.0 s.history (seen_stripes seen)) (seen_stripes sight) (classes_seen by.config.stripes (list_at sight.seen)) stretch
+search_up_to_there by need s seen sight stretch (inl one) = inl (search_there by need s seen sight stretch one)
+search_up_to_there by need s seen sight stretch (inr some) =
     let cut = some.2 in
     inr (
       some.0,
@@ -48,10 +49,12 @@ search_up_to_there config need who moment sight stretch (inr some) =
       λ is. record {
         before = cut.before;
         searched = cut.searched;
-        broken = cut.broken;
+        broken = broken_more (rounds_in by some.0) by.number (IsSeenState by.config.stripes (sight_of by seen s) sight)
+            (IsStateBetween by.config.stripes (with_stripe by.number.0 s.history (seen_stripes seen)) (seen_stripes sight))
+            (own_states by.number.0 s.history seen by.config.stripes sight) cut.before cut.searched cut.broken;
         from_is = cut.from_is;
         until_is = cut.until_is;
-        begins = class_seen_begins config sight some.0 cut.searched cut.seen;
+        begins = class_seen_begins by.config sight some.0 cut.searched cut.seen;
       },
     )
 
@@ -78,9 +81,9 @@ command_broke config before after command moment fault some grows earlier by =
           led_up = ⊎_elim (λ none. inl none) (λ led. inr (led_up_there config number who command moment by.old by.cut.before site led)) by.cut.led_up;
           split = now ∙ (by.cut.history_is ∙ sym (append-nil longer));
           stretch = by.stretch;
-          search = subst (λ (t : Site). NotesSearchUpTo config (visible_row (stripe t config.max_events config.keeps_events by.old.history 0) command moment).need
-              (histories_seen config after.sight).classes who moment by.stretch) site
-              (search_up_to_there config (visible_row by.old command moment).need who moment after.sight by.stretch by.search);
+          search = subst (λ (t : Site). NotesSearchUpTo (searcher config number who moment) (visible_row (stripe t config.max_events config.keeps_events by.old.history 0) command moment).need
+              (with_stripe number by.old.history (seen_stripes before.sight)) (seen_stripes after.sight) (histories_seen config after.sight).classes by.stretch) site
+              (search_up_to_there (searcher config number who moment) (visible_row by.old command moment).need by.old before.sight after.sight by.stretch by.search);
         },
         entered_only before after _ _ earlier by.account (λ lock place event at mine suits. (
           subst (λ (t : Site). IsOfCommand config (stripe t config.max_events config.keeps_events by.old.history 0) command moment by.stretch lock place event) site suits,

@@ -1,14 +1,16 @@
 -- By a call its caller's pass comes from what it had seen to what it has seen then, and the call stands between.
 use Rattle.std.proofs.Common.{◌≡◌, ◌<◌, ℕ, List, [], ◌∷◌, ◌++◌, length, slice_get, refl, sym, ap, ◌∙◌, append-nil, append_assoc, length-append, subst, arith, inl, inr, ⊎_elim}
 use mathlib.Core.List.{IsPrefix}
+use Rattle.std.specs.Prelude.{Bool, true, false, if◌then◌else◌, nat_eq}
 use Rattle.std.proofs.Math.Nat.{mod-lt}
 use Rattle.mc_item.specs.{Command.key_of, Measure.fnv1a, Counts.no_counts, Stripe.cache_of}
 use Rattle.mc_item.specs.declared.{answer.Site.Site, class_event.ClassEvent.ClassEvent, command.Command.Command}
 use Rattle.mc_item.specs.declared.{config.Config.Config, counts.Moves.Moves, event.Event.Event, item.ClassNo.ClassNo, item.Who.Who, reply.Reply.Reply}
 use Rattle.mc_item.specs.declared.{answer.Need.Need, stripe_event.StripeEvent.StripeEvent, counts.Histogram.Histogram, item.Link.Link}
 use Rattle.mc_item.specs.declared.event.Event.TheVariants as board_events
-use Rattle.mc_board.specs.{Accounts.maker_of, Accounts.who_of, Histories.Grows, Histories.list_at}
+use Rattle.mc_board.specs.{Accounts.maker_of, Accounts.who_of, Histories.Grows, Histories.list_at, Histories.with_seen}
 use Rattle.mc_board.specs.declared.rule.Sight.{Sight}
+use Rattle.mc_board.proofs.{PrefixLemmas.prefix_self, SeenLemmas.list_at_other}
 use Rattle.mc_evidence.specs.{Seen.class_events, Seen.classes_seen, Seen.stripe_events, Refusals.WasTried, Setting.IsClass, Setting.site_in, Locks.ClassKeeps, Locks.StripeKeeps}
 use Rattle.mc_evidence.proofs.SeenLemmas.{class_events-append, class_events-map, classes_grow, stripe_events-map, stripes_grow}
 use Rattle.mc_proto.specs.Answers.{Counted, Limited, Moved, Replied}
@@ -17,13 +19,15 @@ use Rattle.mc_script.specs.Exchanges.{Asks, Crawls, Juggles, Limits, exchange}
 use Rattle.mc_segment.specs.{ClassCalls.limited_event, ClassState.ClassView}
 use Rattle.mc_stripe.specs.{Plan.dead_link, Plan.visible_row, StripeState.Stripe, StripeState.stripe}
 use Rattle.mc_store.specs.{Accounts.IsOfCommand, Accounts.Stretch, Commands.IsSearch, Commands.LeadsUp, Commands.burial, Searches.IsSearchFor}
+use Rattle.mc_store.specs.Searches.{Searcher, rounds_in, searcher, sight_of}
 use Rattle.mc_store.specs.{Calls.IsJuggledBy, Calls.IsJuggledWith, Calls.IsLimitedBy, Calls.IsRepliedBy, Locked.setting_of, Locked.class_lock, Sides.class_told, Sides.stripe_told, Crawls.AreLinksCounted}
 use Rattle.mc_store.specs.Hits.{AreAdvanced}
-use Rattle.mc_store.specs.{Crawls.HasReclaims, Crawls.IsCrawledBy, Earned.IsLastResort, Headline.answered_did, Passes.PassView, Passes.next_who, Reached.IsSeenState, Reached.seen_stripes}
-use Rattle.mc_store.proofs.{EarnedRefusalLemmas.opened_again, LockKeepsLemmas.site_of_number}
-use Rattle.mc_driver.specs.{Caller.EntersOnly, Caller.IsBefore, Caller.histories_seen, Noted.answered_event, Noted.stripe_with, Searched.NotesSearchFor}
+use Rattle.mc_store.specs.{Crawls.HasReclaims, Crawls.IsCrawledBy, Earned.IsLastResort, Headline.answered_did, Passes.PassView, Passes.next_who, Reached.IsSeenState, Reached.IsStateBetween, Reached.seen_stripes}
+use Rattle.mc_store.proofs.{EarnedRefusalLemmas.once_more, EarnedRefusalLemmas.opened_again, LockKeepsLemmas.heard_stripe, LockKeepsLemmas.site_of_number, ReachedLemmas.state_wider}
+use Rattle.mc_driver.specs.{Caller.EntersOnly, Caller.IsBefore, Caller.histories_seen, Noted.answered_event, Noted.stripe_with, Searched.NotesSearchFor, Searched.with_stripe}
 use Rattle.mc_driver.specs.Stand.{Grow, StandsBetween, stripe_number}
 use Rattle.mc_driver.proofs.{EnteredCallLemmas.entered_only, EnteredCallLemmas.stands_within, NotedPlaceLemmas.class_begins, NotedPlaceLemmas.stripe_begins}
+use Rattle.mc_driver.proofs.OnlyCallsLemmas.{is_same, is_yes}
 
 -- what a pass has seen grows
 pub seen_grow : (config : Config) (old new : Sight) → Grows old new → Grow config (histories_seen config old) (histories_seen config new)
@@ -41,26 +45,48 @@ led_up_there config number who command moment s made site led = record {
   search = subst (λ (t : Site). IsSearch config who moment (visible_row (stripe t config.max_events config.keeps_events s.history 0) command moment).need led.walked) site led.search;
 }
 
+-- what was seen of the stripes, with one's whole history
+module _ (number : ℕ) (history : List StripeEvent) (sight : Sight) where
+  abbrev pub OwnFirst : Sight
+  OwnFirst = with_seen sight number (stripe_told history)
+
+  own_first : (n : ℕ) → IsPrefix (with_stripe number history (seen_stripes sight) n) (seen_stripes OwnFirst n)
+  own_first n = by (nat_eq n number) refl
+    where
+      by : (b : Bool) → nat_eq n number ≡ b → IsPrefix (if b then history else seen_stripes sight n) (seen_stripes OwnFirst n)
+      by true same = subst (IsPrefix history) (sym (heard_stripe sight number n history (sym (is_same n number same)))) (prefix_self history)
+      by false other = subst (λ (l : List Event). IsPrefix (seen_stripes sight n) (stripe_events l))
+          (sym (list_at_other sight.seen number n (stripe_told history) (λ is. cc (sym (is_yes n number is) ∙ other)))) (prefix_self (seen_stripes sight n))
+
+  -- what holds of the states after that
+  pub own_states : (stripes : ℕ) (later : Sight) (s : Stripe) → IsSeenState stripes OwnFirst later s
+      → IsStateBetween stripes (with_stripe number history (seen_stripes sight)) (seen_stripes later) s
+  own_states stripes later = state_wider stripes (with_stripe number history (seen_stripes sight)) (seen_stripes OwnFirst) (seen_stripes later) (seen_stripes later) (λ n of. own_first n)
+      (λ n of. prefix_self (seen_stripes later n))
+
 -- a search for a chunk that a pass has seen stands in what it has seen
-pub search_there : (config : Config) (need : Need) (who : Who) (moment : ℕ) (sight : Sight) (stretch : Stretch) → IsSearchFor config need who moment sight stretch
-    → NotesSearchFor config need (classes_seen config.stripes (list_at sight.seen)) who moment stretch
-search_there config need who moment sight stretch (inl none) = inl none
-search_there config need who moment sight stretch (inr some) =
+pub search_there : (by : Searcher) (need : Need) (s : Stripe) (seen sight : Sight) (stretch : Stretch) → IsSearchFor by need (sight_of by seen s) sight stretch
+    → NotesSearchFor by need (with_stripe by.number.0 s.history (seen_stripes seen)) (seen_stripes sight) (classes_seen by.config.stripes (list_at sight.seen)) stretch
+search_there by need s seen sight stretch (inl none) = inl none
+search_there by need s seen sight stretch (inr some) =
     let one = some.2 in
     let history = one.searched ++ one.refusal in
-    let begins = classes_grow config.stripes (λ lock. class_told history) (λ lock. list_at sight.seen (class_lock config some.0)) (λ lock. one.seen) some.0 in
+    let lock = class_lock by.config some.0 in
+    let begins = classes_grow by.config.stripes (λ at. class_told history) (λ at. list_at sight.seen lock) (λ at. one.seen) some.0 in
     inr (
       some.0,
       some.1,
       λ is. record {
         before = one.before;
         searched = one.searched;
-        once = one.once;
+        once = once_more (rounds_in by some.0) by.number (IsSeenState by.config.stripes (sight_of by seen s) sight)
+            (IsStateBetween by.config.stripes (with_stripe by.number.0 s.history (seen_stripes seen)) (seen_stripes sight))
+            (own_states by.number.0 s.history seen by.config.stripes sight) one.before one.searched one.once;
         refusal = one.refusal;
         refusal_is = one.refusal_is;
         from_is = one.from_is;
         until_is = one.until_is;
-        begins = subst (λ (h : List ClassEvent). IsPrefix h (class_events (list_at sight.seen (class_lock config some.0)))) (class_events-map history) begins;
+        begins = subst (λ (h : List ClassEvent). IsPrefix h (class_events (list_at sight.seen lock))) (class_events-map history) begins;
       },
     )
 
@@ -98,9 +124,9 @@ replied_between config before after command moment reply some grows earlier by =
               (subst (λ (n : ℕ). IsLastResort config (record { 0 = n }) class place ((histories_seen config after.sight).classes class)
               (answered_did who command moment answered.reply answered.room)) at (by.replied.earned.last class place room));
           stretch = account.stretch;
-          search = subst (λ (t : Site). NotesSearchFor config (visible_row (stripe t config.max_events config.keeps_events by.old.history 0) command moment).need
-              (histories_seen config after.sight).classes who moment account.stretch) site
-              (search_there config (visible_row by.old command moment).need who moment after.sight account.stretch account.search);
+          search = subst (λ (t : Site). NotesSearchFor (searcher config number who moment) (visible_row (stripe t config.max_events config.keeps_events by.old.history 0) command moment).need
+              (with_stripe number by.old.history (seen_stripes before.sight)) (seen_stripes after.sight) (histories_seen config after.sight).classes account.stretch) site
+              (search_there (searcher config number who moment) (visible_row by.old command moment).need by.old before.sight after.sight account.stretch account.search);
         },
         entered_only before after _ _ earlier account.enters (λ lock place event at mine suits. (
           subst (λ (t : Site). IsOfCommand config (stripe t config.max_events config.keeps_events by.old.history 0) command moment account.stretch lock place event) site suits,

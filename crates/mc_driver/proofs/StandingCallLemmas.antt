@@ -1,5 +1,6 @@
 -- Calls that stand in histories, or broke off in them, go on doing so where these grow, and after less that was seen.
 use Rattle.std.proofs.Common.{◌≡◌, ◌<◌, ℕ, zero, suc, List, [], ◌∷◌, ◌++◌, Option, None, Some, sym, ap, ◌∙◌, append_assoc, subst, refl, inl, inr, ⊎_elim}
+use Rattle.std.specs.Prelude.{Bool, true, false, if◌then◌else◌, nat_eq}
 use Rattle.std.specs.List.{slice_get}
 use mathlib.Core.List.{IsPrefix}
 use Rattle.mc_item.specs.declared.{class_event.ClassEvent.ClassEvent, command.Command.Command, config.Config.Config, counts.Histogram.Histogram}
@@ -13,7 +14,8 @@ use Rattle.mc_script.specs.Exchanges.{Asks, Begun, Crawls, Exchange, Juggles, Li
 use Rattle.mc_segment.specs.ClassCalls.{limited_event, refused_event}
 use Rattle.mc_store.specs.{Accounts.Stretch, Crawls.HasReclaims, Earned.IsLastResort, Headline.answered_did, Locked.setting_of, Sides.class_told}
 use Rattle.mc_pull.specs.Rounds.{rounds}
-use Rattle.mc_store.specs.Reached.{IsStateBetween}
+use Rattle.mc_store.specs.{Reached.IsStateBetween, Searches.Searcher, Searches.rounds_in, Searches.searcher}
+use Rattle.mc_store.proofs.EarnedRefusalLemmas.{broken_more, once_more}
 use Rattle.mc_store.proofs.{CrawledLemmas.links_wider, ReachedLemmas.judged_more, ReachedLemmas.state_wider, TakenHitLemmas.advanced_more, TakenHitLemmas.cut_more}
 use Rattle.mc_item.specs.Counts.{no_counts}
 use Rattle.mc_crawl.specs.Snapshot.{links_of}
@@ -21,7 +23,7 @@ use Rattle.mc_segment.specs.ClassState.{opened}
 use Rattle.mc_stripe.specs.Plan.{visible_row}
 use Rattle.mc_driver.specs.Cut.{NotesCommandCut, NotesCrawlingCut, NotesJugglingCut, NotesSearchUpTo}
 use Rattle.mc_driver.specs.Noted.{NotesCommand, NotesCrawling, NotesJuggling, NotesLimit, answered_event, stripe_with}
-use Rattle.mc_driver.specs.Searched.{NotesSearchFor}
+use Rattle.mc_driver.specs.Searched.{NotesSearchFor, with_stripe}
 use Rattle.mc_driver.specs.Stand.{BreaksOffAfter, BreaksOffAs, StandsLast, Grow, Histories, IsPlaced, StandFrom, StandsAs, StandsBehind, StandsBetween, nothing_seen, stripe_number}
 
 -- ---- histories that grow
@@ -56,12 +58,22 @@ last_later config number class place history longer did begins last = record {
   through = last.through;
 }
 
+-- this history of one stripe in both
+if_both : (b : Bool) (history xs ys : List StripeEvent) → IsPrefix xs ys → IsPrefix (if b then history else xs) (if b then history else ys)
+if_both true history xs ys more = prefix_self history
+if_both false history xs ys more = more
+
+stripe_grows : (stripes number : ℕ) (history : List StripeEvent) (less seen : ℕ → List StripeEvent) → ((n : ℕ) → n < stripes → IsPrefix (less n) (seen n)) → (n : ℕ) → n < stripes
+    → IsPrefix (with_stripe number history less n) (with_stripe number history seen n)
+stripe_grows stripes number history less seen begins n of = if_both (nat_eq n number) history (less n) (seen n) (begins n of)
+
 -- a search for a chunk is noted where classes grow
-search_on : (config : Config) (need : Need) (classes classes_new : ClassNo → List ClassEvent) (who : Who) (moment : ℕ) (stretch : Stretch)
-    → ((class : ClassNo) → IsClass (setting_of config) class → IsPrefix (classes class) (classes_new class)) → NotesSearchFor config need classes who moment stretch
-    → NotesSearchFor config need classes_new who moment stretch
-search_on config need classes classes_new who moment stretch grow (inl none) = inl none
-search_on config need classes classes_new who moment stretch grow (inr some) = inr (
+search_on : (by : Searcher) (need : Need) (earlier older newer later : ℕ → List StripeEvent) (classes classes_new : ClassNo → List ClassEvent) (stretch : Stretch)
+    → ((n : ℕ) → n < by.config.stripes → IsPrefix (earlier n) (older n)) → ((n : ℕ) → n < by.config.stripes → IsPrefix (newer n) (later n))
+    → ((class : ClassNo) → IsClass (setting_of by.config) class → IsPrefix (classes class) (classes_new class)) → NotesSearchFor by need older newer classes stretch
+    → NotesSearchFor by need earlier later classes_new stretch
+search_on by need earlier older newer later classes classes_new stretch first last grow (inl none) = inl none
+search_on by need earlier older newer later classes classes_new stretch first last grow (inr some) = inr (
   some.0,
   some.1,
   λ is.
@@ -69,7 +81,8 @@ search_on config need classes classes_new who moment stretch grow (inr some) = i
       record {
         before = noted.before;
         searched = noted.searched;
-        once = noted.once;
+        once = once_more (rounds_in by some.0) by.number (IsStateBetween by.config.stripes older newer) (IsStateBetween by.config.stripes earlier later)
+            (state_wider by.config.stripes earlier older newer later first last) noted.before noted.searched noted.once;
         refusal = noted.refusal;
         refusal_is = noted.refusal_is;
         from_is = noted.from_is;
@@ -79,19 +92,22 @@ search_on config need classes classes_new who moment stretch grow (inr some) = i
 )
 
 -- a command that a history notes is noted by a longer one, after less that was seen, where classes grow
-command_on : (config : Config) (number : ℕ) (less seen history longer : List StripeEvent) (classes classes_new : ClassNo → List ClassEvent) (who : Who) (command : Command) (moment : ℕ) (reply : Reply)
-    → IsPrefix less seen → IsPrefix history longer → ((class : ClassNo) → IsClass (setting_of config) class → IsPrefix (classes class) (classes_new class))
+command_on : (config : Config) (number : ℕ) (less seen history longer : ℕ → List StripeEvent) (classes classes_new : ClassNo → List ClassEvent) (who : Who) (command : Command) (moment : ℕ)
+    (reply : Reply) → number < config.stripes → ((n : ℕ) → n < config.stripes → IsPrefix (less n) (seen n)) → ((n : ℕ) → n < config.stripes → IsPrefix (history n) (longer n))
+    → ((class : ClassNo) → IsClass (setting_of config) class → IsPrefix (classes class) (classes_new class))
     → NotesCommand config number seen history classes who command moment reply → NotesCommand config number less longer classes_new who command moment reply
-command_on config number less seen history longer classes classes_new who command moment reply begins more grow noted = record {
+command_on config number less seen history longer classes classes_new who command moment reply of begins more grow noted = record {
   older = noted.older;
   made = noted.made;
   room = noted.room;
-  behind = noted.behind ++ more.0;
-  past = prefix_trans less seen noted.older begins noted.past;
+  behind = noted.behind ++ (more number of).0;
+  past = prefix_trans (less number) (seen number) noted.older (begins number of) noted.past;
   first = noted.first;
   led_up = noted.led_up;
-  split = sym more.1 ∙ (ap (λ (h : List StripeEvent). h ++ more.0) noted.split
-      ∙ append_assoc (noted.older ++ noted.made) (answered_event who command moment reply noted.room ∷ noted.behind) more.0);
+  split =
+      let rest = more number of in
+      sym rest.1 ∙ (ap (λ (h : List StripeEvent). h ++ rest.0) noted.split
+      ∙ append_assoc (noted.older ++ noted.made) (answered_event who command moment reply noted.room ∷ noted.behind) rest.0);
   earned = λ class is.
       let site = site_in (setting_of config) number in
       let did = answered_did who command moment reply noted.room in
@@ -100,7 +116,8 @@ command_on config number less seen history longer classes classes_new who comman
   last = λ class place is refused.
       last_later config (record { 0 = number }) class place (classes class) (classes_new class) (answered_did who command moment reply noted.room) (grow class is) (noted.last class place is refused);
   stretch = noted.stretch;
-  search = search_on config (visible_row (stripe_with config number noted.older) command moment).need classes classes_new who moment noted.stretch grow noted.search;
+  search = search_on (searcher config number who moment) (visible_row (stripe_with config number noted.older) command moment).need (with_stripe number noted.older less)
+      (with_stripe number noted.older seen) history longer classes classes_new noted.stretch (stripe_grows config.stripes number noted.older less seen begins) more grow noted.search;
 }
 
 -- and so is juggling
@@ -178,11 +195,13 @@ limit_on less seen history longer who chunks begins more noted = record {
 
 -- ---- the same of calls that broke off
 
-search_up_to_on : (config : Config) (need : Need) (classes classes_new : ClassNo → List ClassEvent) (who : Who) (moment : ℕ) (stretch : Stretch)
-    → ((class : ClassNo) → IsClass (setting_of config) class → IsPrefix (classes class) (classes_new class)) → NotesSearchUpTo config need classes who moment stretch
-    → NotesSearchUpTo config need classes_new who moment stretch
-search_up_to_on config need classes classes_new who moment stretch grow (inl one) = inl (search_on config need classes classes_new who moment stretch grow one)
-search_up_to_on config need classes classes_new who moment stretch grow (inr cut) = inr (
+search_up_to_on : (by : Searcher) (need : Need) (earlier older newer later : ℕ → List StripeEvent) (classes classes_new : ClassNo → List ClassEvent) (stretch : Stretch)
+    → ((n : ℕ) → n < by.config.stripes → IsPrefix (earlier n) (older n)) → ((n : ℕ) → n < by.config.stripes → IsPrefix (newer n) (later n))
+    → ((class : ClassNo) → IsClass (setting_of by.config) class → IsPrefix (classes class) (classes_new class)) → NotesSearchUpTo by need older newer classes stretch
+    → NotesSearchUpTo by need earlier later classes_new stretch
+search_up_to_on by need earlier older newer later classes classes_new stretch first last grow (inl one) =
+    inl (search_on by need earlier older newer later classes classes_new stretch first last grow one)
+search_up_to_on by need earlier older newer later classes classes_new stretch first last grow (inr cut) = inr (
   cut.0,
   cut.1,
   λ is.
@@ -190,26 +209,31 @@ search_up_to_on config need classes classes_new who moment stretch grow (inr cut
       record {
         before = noted.before;
         searched = noted.searched;
-        broken = noted.broken;
+        broken = broken_more (rounds_in by cut.0) by.number (IsStateBetween by.config.stripes older newer) (IsStateBetween by.config.stripes earlier later)
+            (state_wider by.config.stripes earlier older newer later first last) noted.before noted.searched noted.broken;
         from_is = noted.from_is;
         until_is = noted.until_is;
         begins = prefix_trans noted.searched (classes cut.0) (classes_new cut.0) noted.begins (grow cut.0 is);
       },
 )
 
-command_cut_on : (config : Config) (number : ℕ) (less seen history longer : List StripeEvent) (classes classes_new : ClassNo → List ClassEvent) (who : Who) (command : Command) (moment : ℕ) → IsPrefix less seen
-    → IsPrefix history longer → ((class : ClassNo) → IsClass (setting_of config) class → IsPrefix (classes class) (classes_new class))
+command_cut_on : (config : Config) (number : ℕ) (less seen history longer : ℕ → List StripeEvent) (classes classes_new : ClassNo → List ClassEvent) (who : Who) (command : Command) (moment : ℕ)
+    → number < config.stripes → ((n : ℕ) → n < config.stripes → IsPrefix (less n) (seen n)) → ((n : ℕ) → n < config.stripes → IsPrefix (history n) (longer n))
+    → ((class : ClassNo) → IsClass (setting_of config) class → IsPrefix (classes class) (classes_new class))
     → NotesCommandCut config number seen history classes who command moment → NotesCommandCut config number less longer classes_new who command moment
-command_cut_on config number less seen history longer classes classes_new who command moment begins more grow noted = record {
+command_cut_on config number less seen history longer classes classes_new who command moment of begins more grow noted = record {
   older = noted.older;
   made = noted.made;
-  behind = noted.behind ++ more.0;
-  past = prefix_trans less seen noted.older begins noted.past;
+  behind = noted.behind ++ (more number of).0;
+  past = prefix_trans (less number) (seen number) noted.older (begins number of) noted.past;
   first = noted.first;
   led_up = noted.led_up;
-  split = sym more.1 ∙ (ap (λ (h : List StripeEvent). h ++ more.0) noted.split ∙ append_assoc (noted.older ++ noted.made) noted.behind more.0);
+  split =
+      let rest = more number of in
+      sym rest.1 ∙ (ap (λ (h : List StripeEvent). h ++ rest.0) noted.split ∙ append_assoc (noted.older ++ noted.made) noted.behind rest.0);
   stretch = noted.stretch;
-  search = search_up_to_on config (visible_row (stripe_with config number noted.older) command moment).need classes classes_new who moment noted.stretch grow noted.search;
+  search = search_up_to_on (searcher config number who moment) (visible_row (stripe_with config number noted.older) command moment).need (with_stripe number noted.older less)
+      (with_stripe number noted.older seen) history longer classes classes_new noted.stretch (stripe_grows config.stripes number noted.older less seen begins) more grow noted.search;
 }
 
 juggling_cut_on : (config : Config) (earlier older newer later : ℕ → List StripeEvent) (less seen history longer : List ClassEvent) (who : Who) (class : ClassNo) (moment : ℕ)
@@ -256,7 +280,7 @@ module _ (makes : Who → ((lock place : ℕ) → Event → Type 0) → Type 0) 
   unfolding command_on juggling_on crawling_on limit_on
   stands_on config less seen old new who moment (Asks command) (Replied reply) begins grow placed stands =
       let number = stripe_number config.stripes command in
-      (command_on config number _ _ _ _ old.classes new.classes who command moment reply (begins.stripes number placed) (grow.stripes number placed) grow.classes stands.0, stands.1)
+      (command_on config number _ _ _ _ old.classes new.classes who command moment reply placed begins.stripes grow.stripes grow.classes stands.0, stands.1)
   stands_on config less seen old new who moment (Juggles class) (Moved moves) begins grow placed stands =
       (juggling_on config _ _ _ _ _ _ _ _ who class moment moves begins.stripes grow.stripes (begins.classes class placed) (grow.classes class placed) stands.0, stands.1)
   stands_on config less seen old new who moment (Crawls class) (Counted histogram) begins grow placed stands =
@@ -314,7 +338,7 @@ module _ (makes : Who → ((lock place : ℕ) → Event → Type 0) → Type 0) 
   unfolding command_cut_on juggling_cut_on crawling_cut_on
   breaks_on config less seen old new who moment (Asks command) begins grow placed left =
       let number = stripe_number config.stripes command in
-      (command_cut_on config number _ _ _ _ old.classes new.classes who command moment (begins.stripes number placed) (grow.stripes number placed) grow.classes left.0, left.1)
+      (command_cut_on config number _ _ _ _ old.classes new.classes who command moment placed begins.stripes grow.stripes grow.classes left.0, left.1)
   breaks_on config less seen old new who moment (Juggles class) begins grow placed left =
       (juggling_cut_on config _ _ _ _ _ _ _ _ who class moment begins.stripes grow.stripes (begins.classes class placed) (grow.classes class placed) left.0, left.1)
   breaks_on config less seen old new who moment (Crawls class) begins grow placed left =

@@ -12,37 +12,40 @@ use Rattle.mc_stripe.specs.Plan.{visible_row}
 use Rattle.mc_pull.specs.Rounds.{rounds}
 use Rattle.mc_crawl.specs.Snapshot.{links_of}
 use Rattle.mc_store.specs.{Accounts.Stretch, Callers.HasNoneOf, Calls.IsJuggleCut, Commands.LeadsUp, Crawls.AreCountedFirst, Crawls.AreLinksCounted}
-use Rattle.mc_store.specs.{Hits.AreAdvanced, Reached.IsStateBetween, Locked.setting_of, Made.HasNoneMadeBy, Searches.IsSearchBroken, Sides.class_told}
-use Rattle.mc_driver.specs.{Noted.stripe_with, Searched.NotesSearchFor}
+use Rattle.mc_store.specs.{Hits.AreAdvanced, Reached.IsStateBetween, Locked.setting_of, Made.HasNoneMadeBy, Sides.class_told}
+use Rattle.mc_store.specs.Searches.{IsSearchBroken, Searcher, rounds_in, searcher}
+use Rattle.mc_driver.specs.{Noted.stripe_with, Searched.NotesSearchFor, Searched.with_stripe}
 
--- a class's history has, in this stretch, a search for a chunk by this call that a fault broke off
-pub record NotesCutSearch (config : Config) (history : List ClassEvent) (who : Who) (class : ClassNo) (moment : ℕ) (stretch : Stretch) : Type 0 where
+-- a class's history has, in this stretch, a search for a chunk by this call that a fault broke off, by states as in `NotesSearch`
+pub record NotesCutSearch (by : Searcher) (class : ClassNo) (older newer : ℕ → List StripeEvent) (history : List ClassEvent) (stretch : Stretch) : Type 0 where
   pub before : List ClassEvent
   pub searched : List ClassEvent
-  pub broken : IsSearchBroken config class who moment before searched
+  pub broken : IsSearchBroken (rounds_in by class) by.number (IsStateBetween by.config.stripes older newer) before searched
   pub from_is : stretch.from ≡ length before
   pub until_is : stretch.until ≡ length searched
   pub begins : IsPrefix searched history
 
 -- a command's stretch of a search is empty, or one search in the class of which it needs a new chunk, which a fault may have broken off
-abbrev pub NotesSearchUpTo : Config → Need → (ClassNo → List ClassEvent) → Who → ℕ → Stretch → Type 0
-NotesSearchUpTo config need classes who moment stretch =
-    NotesSearchFor config need classes who moment stretch
-    ⊎ ((class : ClassNo) × (need ≡ Fresh class) × (IsClass (setting_of config) class → NotesCutSearch config (classes class) who class moment stretch))
+abbrev pub NotesSearchUpTo : Searcher → Need → (older newer : ℕ → List StripeEvent) → (ClassNo → List ClassEvent) → Stretch → Type 0
+NotesSearchUpTo by need older newer classes stretch =
+    NotesSearchFor by need older newer classes stretch
+    ⊎ ((class : ClassNo) × (need ≡ Fresh class) × (IsClass (setting_of by.config) class → NotesCutSearch by class older newer (classes class) stretch))
 
--- a stripe's history has the beginning of a command after what was seen of it: older events, none of them of this call, then nothing,
--- or just what leads up to the command. The command searched for a chunk at most once
-pub record NotesCommandCut (config : Config) (number : ℕ) (seen history : List StripeEvent) (classes : ClassNo → List ClassEvent) (who : Who)
+-- the history of the stripe with this number has the beginning of a command after what was seen of it: older events, none of them
+-- of this call, then nothing, or just what leads up to the command. The command searched for a chunk at most once, by states as in
+-- `NotesCommand`
+pub record NotesCommandCut (config : Config) (number : ℕ) (seen history : ℕ → List StripeEvent) (classes : ClassNo → List ClassEvent) (who : Who)
     (command : Command) (moment : ℕ) : Type 0 where
   pub older : List StripeEvent
   pub made : List StripeEvent
   pub behind : List StripeEvent
-  pub past : IsPrefix seen older
+  pub past : IsPrefix (seen number) older
   pub first : HasNoneOf who older
   pub led_up : (made ≡ []) ⊎ LeadsUp config who command moment (stripe_with config number older) made
-  pub split : history ≡ (older ++ made) ++ behind
+  pub split : history number ≡ (older ++ made) ++ behind
   pub stretch : Stretch
-  pub search : NotesSearchUpTo config (visible_row (stripe_with config number older) command moment).need classes who moment stretch
+  pub search : NotesSearchUpTo (searcher config number who moment) (visible_row (stripe_with config number older) command moment).need
+      (with_stripe number older seen) history classes stretch
 
 -- a class's history has the beginning of a call's juggling after what was seen of it and older events, none of them of this call: the
 -- moves of at most 256 hits, and then nothing, or surveys and walks that a fault broke off. A stripe that these reached was as it was

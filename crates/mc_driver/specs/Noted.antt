@@ -18,9 +18,9 @@ use Rattle.mc_item.specs.Counts.{no_counts}
 use Rattle.mc_item.specs.declared.reply.Room.TheVariants as rooms
 use Rattle.mc_store.specs.{Accounts.IsOfCommand, Accounts.IsWithin, Accounts.Stretch, Callers.HasNoneOf, Commands.LeadsUp, Crawls.AreLinksCounted}
 use Rattle.mc_store.specs.{Crawls.HasReclaims, Earned.IsLastResort, Headline.answered_did, Hits.AreAdvanced, Locked.setting_of}
-use Rattle.mc_store.specs.{Calls.IsJuggledWith, Made.HasNoneMadeBy, Reached.IsStateBetween, Sides.class_told}
+use Rattle.mc_store.specs.{Calls.IsJuggledWith, Made.HasNoneMadeBy, Reached.IsStateBetween, Searches.searcher, Sides.class_told}
 use Rattle.mc_stripe.specs.{Plan.visible_row, StripeState.Stripe, StripeState.stripe}
-use Rattle.mc_driver.specs.Searched.{NotesSearchFor}
+use Rattle.mc_driver.specs.Searched.{NotesSearchFor, with_stripe}
 
 -- an answered command as an exchange, without its room (the link or the refusal that it was given)
 abbrev pub exchange_of : Did → Exchange
@@ -50,25 +50,27 @@ IsOfPart config number command moment older until stretch lock place event =
     IsOfCommand config (stripe_with config number older) command moment stretch lock place event
     × (lock ≡ number → IsWithin (record { from = length older; until = until }) place)
 
--- a stripe's history has this answered command after what was seen of it: older events, none of them of this call, then just what
--- leads up to the command, then its answer. If that cites a refusal, the class's history has that one, by the same call, made not
--- at once but after all rounds of a search. The command searched for a chunk at most once
-pub record NotesCommand (config : Config) (number : ℕ) (seen history : List StripeEvent) (classes : ClassNo
-    → List ClassEvent) (who : Who) (command : Command) (moment : ℕ) (reply : Reply) : Type 0 where
+-- the history of the stripe with this number has this answered command after what was seen of it: older events, none of them of
+-- this call, then just what leads up to the command, then its answer. If that cites a refusal, the class's history has that one, by
+-- the same call, made not at once but after all rounds of a search. The command searched for a chunk at most once, by states that
+-- stripes had after what was seen of them, and its own stripe after those older events
+pub record NotesCommand (config : Config) (number : ℕ) (seen history : ℕ → List StripeEvent) (classes : ClassNo → List ClassEvent) (who : Who)
+    (command : Command) (moment : ℕ) (reply : Reply) : Type 0 where
   pub older : List StripeEvent
   pub made : List StripeEvent
   pub room : Room
   pub behind : List StripeEvent
-  pub past : IsPrefix seen older
+  pub past : IsPrefix (seen number) older
   pub first : HasNoneOf who older
   pub led_up : LeadsUp config who command moment (stripe_with config number older) made
-  pub split : history ≡ (older ++ made) ++ answered_event who command moment reply room ∷ behind
+  pub split : history number ≡ (older ++ made) ++ answered_event who command moment reply room ∷ behind
   pub earned : (class : ClassNo) → IsClass (setting_of config) class
       → WasTried (site_in (setting_of config) number) class (classes class) (answered_did who command moment reply room)
   pub last : (class : ClassNo) (place : ℕ) → IsClass (setting_of config) class → room ≡ rooms.Refused class place
       → IsLastResort config (record { 0 = number }) class place (classes class) (answered_did who command moment reply room)
   pub stretch : Stretch
-  pub search : NotesSearchFor config (visible_row (stripe_with config number older) command moment).need classes who moment stretch
+  pub search : NotesSearchFor (searcher config number who moment) (visible_row (stripe_with config number older) command moment).need
+      (with_stripe number older seen) history classes stretch
 
 -- a class's history has a call's juggling with these moves after what was seen of it and older events, none of them of this call, in
 -- one unbroken stretch: the moves of at most 256 hits, then surveys and walks. A stripe that these reached was as it was after

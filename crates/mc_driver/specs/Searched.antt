@@ -1,25 +1,32 @@
 -- The one search for a chunk of a command, in its class's history (own).
-use Rattle.std.specs.Prelude.{ℕ, ◌≡◌, ◌≤◌, ◌⊎◌, List, [], ◌∷◌, ◌++◌, length}
+use Rattle.std.specs.Prelude.{ℕ, ◌≡◌, ◌≤◌, ◌⊎◌, List, [], ◌∷◌, ◌++◌, if◌then◌else◌, length, nat_eq}
 use mathlib.Core.List.{IsPrefix}
-use Rattle.mc_item.specs.declared.{answer.Need.Need, answer.Need.TheVariants.Fresh, class_event.ClassEvent.ClassEvent, config.Config.Config}
-use Rattle.mc_item.specs.declared.{item.ClassNo.ClassNo, item.Who.Who}
+use Rattle.mc_item.specs.declared.{answer.Need.Need, answer.Need.TheVariants.Fresh, class_event.ClassEvent.ClassEvent, item.ClassNo.ClassNo}
+use Rattle.mc_item.specs.declared.stripe_event.StripeEvent.{StripeEvent}
 use Rattle.mc_evidence.specs.Setting.{IsClass}
 use Rattle.mc_segment.specs.ClassCalls.{refused_event}
-use Rattle.mc_store.specs.{Accounts.Stretch, Locked.setting_of, Searches.IsSearchedOnce}
+use Rattle.mc_store.specs.{Accounts.Stretch, Locked.setting_of, Reached.IsStateBetween, Searches.IsSearchedOnce, Searches.Searcher, Searches.rounds_in}
 
--- a class's history has, in this stretch, one search for a chunk by this call, of at most ten rounds, and then a refusal if it is noted
-pub record NotesSearch (config : Config) (history : List ClassEvent) (who : Who) (class : ClassNo) (moment : ℕ) (stretch : Stretch) : Type 0 where
+-- these histories of stripes, but with this one for the stripe with this number
+abbrev pub with_stripe : ℕ → List StripeEvent → (ℕ → List StripeEvent) → ℕ → List StripeEvent
+with_stripe number history histories n = if nat_eq n number then history else histories n
+
+-- a class's history has, in this stretch, one search for a chunk by this call, of at most ten rounds, and then a refusal if it is noted.
+-- Each answer judged by a state that its stripe had after all that `older` has of it, and of which `newer` has the history. Whenever
+-- the call's own stripe was asked for, it answered and had the entry's item
+pub record NotesSearch (by : Searcher) (class : ClassNo) (older newer : ℕ → List StripeEvent) (history : List ClassEvent) (stretch : Stretch) : Type 0 where
   pub before : List ClassEvent
   pub searched : List ClassEvent
-  pub once : IsSearchedOnce config class who moment before searched
+  pub once : IsSearchedOnce (rounds_in by class) by.number (IsStateBetween by.config.stripes older newer) before searched
   pub refusal : List ClassEvent
-  pub refusal_is : (refusal ≡ []) ⊎ (refusal ≡ refused_event who ∷ [])
+  pub refusal_is : (refusal ≡ []) ⊎ (refusal ≡ refused_event by.who ∷ [])
   pub from_is : stretch.from ≡ length before
   pub until_is : stretch.until ≡ length (searched ++ refusal)
   pub begins : IsPrefix (searched ++ refusal) history
 
--- a command's stretch of a search is empty, or one search in the class of which it needs a new chunk
-abbrev pub NotesSearchFor : Config → Need → (ClassNo → List ClassEvent) → Who → ℕ → Stretch → Type 0
-NotesSearchFor config need classes who moment stretch =
+-- a command's stretch of a search is empty, as there was none or it left no event, or one search in the class of which it needs a new
+-- chunk
+abbrev pub NotesSearchFor : Searcher → Need → (older newer : ℕ → List StripeEvent) → (ClassNo → List ClassEvent) → Stretch → Type 0
+NotesSearchFor by need older newer classes stretch =
     (stretch.until ≤ stretch.from)
-    ⊎ ((class : ClassNo) × (need ≡ Fresh class) × (IsClass (setting_of config) class → NotesSearch config (classes class) who class moment stretch))
+    ⊎ ((class : ClassNo) × (need ≡ Fresh class) × (IsClass (setting_of by.config) class → NotesSearch by class older newer (classes class) stretch))

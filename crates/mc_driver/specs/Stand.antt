@@ -62,7 +62,7 @@ module _ (makes : Who → ((lock place : ℕ) → Event → Type 0) → Type 0) 
   abbrev pub StandsAs : Config → Histories → Histories → Who → ℕ → ScriptCall → Answer → Type 0
   StandsAs config seen histories who moment (Asks command) (Replied reply) =
       let number = stripe_number config.stripes command in
-      (noted : NotesCommand config number (seen.stripes number) (histories.stripes number) histories.classes who command moment reply)
+      (noted : NotesCommand config number seen.stripes histories.stripes histories.classes who command moment reply)
       × makes who (IsOfPart config number command moment noted.older (length (noted.older ++ noted.made) + 1) noted.stretch)
   StandsAs config seen histories who moment (Juggles class) (Moved moves) =
       (noted : NotesJuggling config seen.stripes histories.stripes (seen.classes class) (histories.classes class) who class moment moves)
@@ -92,7 +92,7 @@ module _ (makes : Who → ((lock place : ℕ) → Event → Type 0) → Type 0) 
   abbrev pub BreaksOffAs : Config → Histories → Histories → Who → ℕ → ScriptCall → Type 0
   BreaksOffAs config seen histories who moment (Asks command) =
       let number = stripe_number config.stripes command in
-      (noted : NotesCommandCut config number (seen.stripes number) (histories.stripes number) histories.classes who command moment)
+      (noted : NotesCommandCut config number seen.stripes histories.stripes histories.classes who command moment)
       × makes who (IsOfPart config number command moment noted.older (length (noted.older ++ noted.made)) noted.stretch)
   BreaksOffAs config seen histories who moment (Juggles class) =
       (noted : NotesJugglingCut config seen.stripes histories.stripes (seen.classes class) (histories.classes class) who class moment)

@@ -35,13 +35,13 @@ pub(crate) fn run_cut<'a, R: Threads + Wait + Sync, L: Ledger + Send + Sync>(
         (flat_map (λ end. bytes_of_parts end.1.pieces.items) run.ends.items) run.outcomes.items run.ledger) }
     ensures err { IfErr result (λ fault. IsUnrun fault plan.config (flat_map (λ v. v.items) input.items)) }
 {
-    let Host { rt, alloc, seed } = host;
+    let Host { rt, alloc, .. } = host;
     let Plan { config, upkeep, .. } = plan;
     let sources = sources_of(alloc, limits_for(&config), input)?;
     if sources.len() > MOST_SCRIPTS {
         return Err(RunFault::Scripts);
     }
     let scripts = scripts_of(rt, alloc, sources, book, share)?;
-    let run = run_scripts(rt, alloc, config, seed, scripts, upkeep.as_slice())?;
+    let run = run_scripts(host, config, scripts, upkeep.as_slice())?;
     Ok(run)
 }

@@ -19,4 +19,4 @@ pub use mc_options::{Options, Plan, PlanFault, WordsFault, plan_for, read_words}
 pub use mc_script::{Ends, Outcome, Source, SourceFault};
 pub use mc_store::Final;
 pub use program::run_words;
-pub use running::{Run, run_scripts};
+pub use running::{Host, Run, run_scripts};

@@ -25,7 +25,6 @@ use mc_options::{Plan, WordsFault, read_words};
 use mc_script::Outcome;
 use std::alloc::Global;
 use std::collections::VecDeque;
-use std::hash::RandomState;
 use std::io::{self, Read, Write};
 use std::marker::Brand;
 use std::mem;
@@ -226,11 +225,9 @@ fn run_conversation<T: Threads + Wait + Sync, R: Read + Send, W: Write + Send, E
 /// - 3: reading or writing failed.
 ///
 /// If several callers went wrong, the first script decides, then the maintainer, then the crawler.
-/// `seed` is for the store's hash, and no reply depends on it. The store's memory isn't freed, as the process is about to end.
+/// The store's memory isn't freed, as the process is about to end.
 pub fn run_words<T: Threads + Wait + Sync, R: Read + Send, W: Write + Send, E: Write>(
-    rt: &T,
-    alloc: Global,
-    seed: RandomState,
+    host: Host<'_, T>,
     words: &[&str],
     reader: &mut R,
     writer: &mut W,
@@ -251,6 +248,7 @@ pub fn run_words<T: Threads + Wait + Sync, R: Read + Send, W: Write + Send, E: W
     ensures kept { result ≡ 2 → Keeps (W.contents writer.old) (W.contents writer.new) }
     ensures few { result ≤ 3 }
 {
+    let alloc = host.alloc;
     let plan = match read_words(alloc, words) {
         Ok(plan) => plan,
         Err(WordsFault::Words(error)) => {
@@ -266,7 +264,6 @@ pub fn run_words<T: Threads + Wait + Sync, R: Read + Send, W: Write + Send, E: W
             return say_line(errors, MEMORY, 1);
         }
     };
-    let host = Host { rt, alloc, seed };
     if plan.follow {
         return run_conversation(host, plan, reader, writer, errors);
     }

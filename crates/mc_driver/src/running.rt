@@ -19,12 +19,13 @@ use std::marker::Brand;
 use std::sync::Wait;
 use std::thread::Threads;
 
-/// What each run gets from its host: the runtime, the allocator, and the seed of the store's hash. No clause names them.
+/// What each run gets from its host: the runtime, the allocator, and the seed of the store's hash. No clause names them, and no
+/// reply depends on the seed.
 #[derive_where(Clone, Copy)]
-pub(crate) struct Host<'a, R> {
-    pub(crate) rt: &'a R,
-    pub(crate) alloc: Global,
-    pub(crate) seed: RandomState,
+pub struct Host<'a, R> {
+    pub rt: &'a R,
+    pub alloc: Global,
+    pub seed: RandomState,
 }
 
 /// What a run leaves: the closed store, the outcomes of scripts, maintainer and crawler in this order, and the scripts' ends.
@@ -191,15 +192,13 @@ pub(crate) fn run_ends<E: Ends + Send, R: Threads + Wait + Sync>(
 ///
 /// Of n scripts, script i is caller i, the maintainer is caller n, and the crawler is caller n + 1. The configuration's number of
 /// callers is set here. Each caller has its own thread, unless one script runs without upkeep. If a thread can't be started, the
-/// one that tried does its work. `seed` is for the store's hash, and no reply depends on it.
+/// one that tried does its work.
 ///
 /// Errors come before the first script begins: `Scripts` for no script or more than 62. Else `Configuration` if that isn't sound
 /// for so many. Else `NoMemory` if an allocation failed.
 pub fn run_scripts<E: Ends + Send, R: Threads + Wait + Sync>(
-    rt: &R,
-    alloc: Global,
+    host: Host<'_, R>,
     config: Config,
-    seed: RandomState,
     scripts: Vec<E>,
     upkeep: &[u64],
 ) -> Result<Run<E>, RunFault>
@@ -211,7 +210,7 @@ pub fn run_scripts<E: Ends + Send, R: Threads + Wait + Sync>(
     ensures done { IfOk result (λ run. IsRunDone E.gave E.ended E.taken E.reads E.writes (with_callers (length scripts.items) config) upkeep.now scripts.items
         run.ends.items run.outcomes.items run.ledger) }
 {
-    match run_ends(Host { rt, alloc, seed }, config, scripts, upkeep) {
+    match run_ends(host, config, scripts, upkeep) {
         Ok(run) => Ok(run),
         Err(unrun) => Err(unrun.fault),
     }

@@ -4,6 +4,7 @@
 mod running;
 mod sharing;
 
+use mc_driver::Host;
 use std::hash::RandomState;
 use std::io;
 
@@ -15,6 +16,10 @@ fn no_memory() -> io::Error {
 fn main(rt: HostRuntime) -> io::Result<()> {
     let seed = RandomState::new(&rt)?;
     running::show_parts(&rt)?;
-    running::show_script(&rt, rt.alloc(), seed)?;
+    running::show_script(Host {
+        rt: &rt,
+        alloc: rt.alloc(),
+        seed,
+    })?;
     sharing::show(&rt, rt.alloc(), seed)
 }

@@ -3,11 +3,10 @@ ghost use Rattle.std.specs.Prelude.{IfOk};
 ghost use Rattle.mc_item.specs.Config.{IsBounded};
 
 use crate::no_memory;
-use mc_driver::run_words;
+use mc_driver::{Host, run_words};
 use mc_item::{Config, ConfigFault, Key};
 use mc_proto::{Keys, Limits, Reader, Request};
 use std::alloc::Global;
-use std::hash::RandomState;
 use std::io::{self, Print, Write};
 use std::sync::Wait;
 use std::thread::Threads;
@@ -117,23 +116,12 @@ fn show_output(rt: &impl Print, output: &[u8], status: u8, errors: usize) -> io:
 }
 
 /// Runs a script from bytes in memory, and shows its replies.
-pub(crate) fn show_script<R: Threads + Wait + Sync + Print>(
-    rt: &R,
-    alloc: Global,
-    seed: RandomState,
-) -> io::Result<()> {
+pub(crate) fn show_script<R: Threads + Wait + Sync + Print>(host: Host<'_, R>) -> io::Result<()> {
+    let Host { rt, alloc, .. } = host;
     let mut input: &[u8] = b"set a 7 0 2\r\n99\r\nincr a 1\r\ngets a\r\nquit\r\n";
     let mut output = Vec::new(alloc);
     let mut errors = Vec::new(alloc);
     let words = ["mc_examples", "--events", "64"];
-    let status = run_words(
-        rt,
-        alloc,
-        seed,
-        &words,
-        &mut input,
-        &mut output,
-        &mut errors,
-    );
+    let status = run_words(host, &words, &mut input, &mut output, &mut errors);
     show_output(rt, output.as_slice(), status, errors.len())
 }

@@ -5,7 +5,6 @@ mod deeds;
 mod growing_histories;
 mod histories_in_pieces;
 mod queued_hits;
-mod room_made;
 mod rows;
 mod walks;
 

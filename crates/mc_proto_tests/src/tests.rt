@@ -5,6 +5,7 @@ mod directives;
 mod drawn;
 mod gathered;
 mod hostile;
+mod keepers;
 mod lines;
 mod noted;
 mod pieces;

@@ -1,20 +1,22 @@
--- A walk by a survey, a hit and a burial make no event that looks for a chunk.
-use Rattle.std.proofs.Common.{length, ◌≡◌, ◌++◌, ◌∷◌, [], ℕ, List, Bool, true, false, Option, Some, None, Result, Ok, Err, refl, sym, ap, append_assoc, ◌∙◌, subst}
+-- Which events walks, hits and burials make: those of a search for a chunk, or those of upkeep.
+use Rattle.std.proofs.Common.{length, inl, inr, ◌≡◌, ◌++◌, ◌∷◌, [], ℕ, List, Bool, true, false, Option, Some, None, Result, Ok, Err, refl, sym, ap, append_assoc, ◌∙◌, subst}
 use Rattle.std.specs.Prelude.{◌&&◌, not, if◌then◌else◌, IsSomeAnd, OnErr, OnOk}
+use Rattle.std.specs.List.{All}
 use Rattle.std.proofs.lemmas.List.{append-nil}
+use Rattle.std.proofs.lemmas.List.Elements.{All-append, All-cons, All-nil}
 use Rattle.mc_item.specs.{Cache.Cache, Item.is_dead}
 use Rattle.mc_item.specs.declared.{class_event.ClassEvent.ClassEvent, config.Config.Config, fault.Fault.Fault, item.Item.Item, item.Who.Who, item.StripeNo.StripeNo}
 use Rattle.mc_item.specs.declared.{lists.Entry.Entry}
 use Rattle.mc_item.specs.declared.class_event.Why.TheVariants as whys
 use Rattle.mc_item.specs.Measure.{stripe_of}
 use Rattle.mc_rule.specs.Lists.{lists_of}
-use Rattle.mc_segment.specs.{ClassCalls.Makes, ClassCalls.Stays, ClassCalls.surveyed_event, ClassState.ClassView, ClassState.with_room, Entries.entry_of}
+use Rattle.mc_segment.specs.{ClassCalls.Makes, ClassCalls.Stays, ClassCalls.reclaimed_event, ClassCalls.surveyed_event, ClassState.ClassView, ClassState.with_room, Entries.entry_of}
 use Rattle.mc_stripe.specs.StripeState.{cache_now}
 use Rattle.mc_pull.specs.declared.{judge.Done.Done, judge.Judge.Judge, looking.Answer.Answer, looking.Judged.Judged}
 use Rattle.mc_pull.specs.declared.judge.Judge.TheVariants.{Walk, Dead, Hit}
 use Rattle.mc_pull.specs.declared.judge.Mode.TheVariants.{Plain, Evict, Force}
 use Rattle.mc_pull.specs.declared.judge.Done.TheVariants as done
-use Rattle.mc_pull.specs.Growth.{GainsEvents, GainsFor, NoneLooks, looks_for_chunk}
+use Rattle.mc_pull.specs.Growth.{GainsEvents, GainsFor, SuitsUpkeep, SuitsWalk, looks_for_chunk}
 use Rattle.mc_pull.specs.{Judgement.done_by, Judgement.done_of, Judgement.done_with, Judgement.has_link, Looks.IsJudgedIf, Looks.events_if, Looks.judged_by}
 use Rattle.mc_pull.specs.{Outcome.is_due, Outcome.is_over, Question.Question, Settled.class_with, Settled.cold_events, Settled.done_class_events}
 use Rattle.mc_pull.specs.Settled.{warm_events}
@@ -23,13 +25,9 @@ use Rattle.mc_pull.proofs.{OutcomeLemmas.Means, OutcomeLemmas.done_is, OutcomeLe
 
 -- ---- what a history gains
 
-none_both : (xs ys : List ClassEvent) → NoneLooks xs → NoneLooks ys → NoneLooks (xs ++ ys)
-none_both [] ys first more = more
-none_both (x ∷ xs) ys first more = (first.0, none_both xs ys first.1 more)
-
 -- nothing
 pub gains_itself : (looks : Bool) (c : ClassView) → GainsFor looks c c
-gains_itself looks c = record { grows = record { same = refl; events = []; history_is = sym (append-nil c.history) }; none = λ off. tt }
+gains_itself looks c = record { grows = record { same = refl; events = []; history_is = sym (append-nil c.history) }; each = All-nil (SuitsWalk looks) }
 
 -- first this, then that
 pub gains_both : (looks : Bool) (a b c : ClassView) → GainsFor looks a b → GainsFor looks b c → GainsFor looks a c
@@ -39,14 +37,14 @@ gains_both looks a b c first more = record {
     events = first.grows.events ++ more.grows.events;
     history_is = more.grows.history_is ∙ (ap (λ (h : List ClassEvent). h ++ more.grows.events) first.grows.history_is ∙ append_assoc a.history first.grows.events more.grows.events);
   };
-  none = λ off. none_both first.grows.events more.grows.events (first.none off) (more.none off);
+  each = All-append (SuitsWalk looks) first.grows.events more.grows.events first.each more.each;
 }
 
 -- no event, though its memory may have changed
 pub gains_nothing : (looks : Bool) (a b : ClassView) → GainsEvents a b → b.history ≡ a.history → GainsFor looks a b
 gains_nothing looks a b grows stays = record {
   grows = record { same = grows.same; events = []; history_is = stays ∙ sym (append-nil a.history) };
-  none = λ off. tt;
+  each = All-nil (SuitsWalk looks);
 }
 
 -- ---- what a judgement makes
@@ -70,17 +68,26 @@ surveyed_forced : (b : Bool) (place : ℕ) → (if b then whys.Over place else w
 surveyed_forced true place h = cc
 surveyed_forced false place h = cc
 
-none_warm : (q : Question) (at : ℕ) (j : Judge) → NoneLooks (warm_events q at j)
-none_warm q at (Walk s mode passed) = (active_forced, tt)
-none_warm q at Dead = tt
-none_warm q at Hit = (hit_forced, tt)
+alone : (looks : Bool) (e : ClassEvent) → SuitsWalk looks e → All (SuitsWalk looks) (e ∷ [])
+alone looks e suits = All-cons (SuitsWalk looks) e [] suits (All-nil (SuitsWalk looks))
 
-none_cold : (c : ClassView) (q : Question) (at : ℕ) (j : Judge) → judge_looks j ≡ false → NoneLooks (cold_events c q at j)
-none_cold c q at (Walk s (Plain survey) passed) off = (surveyed_forced (is_over c.rule (lists_of c.history) s survey) survey.place, tt)
-none_cold c q at (Walk s Evict passed) off = absurd (true_false off)
-none_cold c q at (Walk s Force passed) off = absurd (true_false off)
-none_cold c q at Dead off = tt
-none_cold c q at Hit off = tt
+suits_warm : (q : Question) (at : ℕ) (j : Judge) → All (SuitsWalk (judge_looks j)) (warm_events q at j)
+suits_warm q at (Walk s (Plain survey) passed) = alone false _ active_forced
+suits_warm q at (Walk s Evict passed) = alone true _ (inl refl)
+suits_warm q at (Walk s Force passed) = alone true _ (inl refl)
+suits_warm q at Dead = All-nil SuitsUpkeep
+suits_warm q at Hit = alone false _ hit_forced
+
+suits_cold : (c : ClassView) (q : Question) (at : ℕ) (j : Judge) → All (SuitsWalk (judge_looks j)) (cold_events c q at j)
+suits_cold c q at (Walk s (Plain survey) passed) = alone false _ (surveyed_forced (is_over c.rule (lists_of c.history) s survey) survey.place)
+suits_cold c q at (Walk s Evict passed) = alone true _ (inr refl)
+suits_cold c q at (Walk s Force passed) = alone true _ (inr refl)
+suits_cold c q at Dead = All-nil SuitsUpkeep
+suits_cold c q at Hit = All-nil SuitsUpkeep
+
+suits_reclaimed : (looks : Bool) (who : Who) (number moment at : ℕ) → All (SuitsWalk looks) (reclaimed_event who number moment at ∷ [])
+suits_reclaimed true who number moment at = alone true _ tt
+suits_reclaimed false who number moment at = alone false _ tt
 
 evicted_stranger : done.Evicted ≡ done.Stranger → ⊥
 evicted_stranger h = cc
@@ -112,42 +119,46 @@ module _ (c : ClassView) (q : Question) where
   taken_entry cache None off is = evicted_stranger (sym is)
   taken_entry cache (Some e) off is = taken_item e (cache.items e.key) off (done_is c cache q done.Evicted evicted_stranger (Some e) is)
 
-  -- what is done makes no event that looks for a chunk
-  pub none_done : (cache : Cache) (at : ℕ) (d : Done) → judge_looks q.judge ≡ false → d ≡ done_of c cache q → NoneLooks (done_class_events c q at d)
-  none_done cache at done.Reclaimed off is = (λ h. h, tt)
-  none_done cache at done.ToWarm off is = none_warm q at q.judge
-  none_done cache at done.WithinWarm off is = none_warm q at q.judge
-  none_done cache at done.ToCold off is = none_cold c q at q.judge off
-  none_done cache at done.Evicted off is = absurd (taken_entry cache (entry_of q.number (lists_of c.history)) off (sym is))
-  none_done cache at done.Stayed off is = tt
-  none_done cache at (done.Alive expiry) off is = tt
-  none_done cache at done.Stranger off is = tt
+  suits_evicted : (cache : Cache) (at : ℕ) (looks : Bool) → judge_looks q.judge ≡ looks → done.Evicted ≡ done_of c cache q → All (SuitsWalk looks) (done_class_events c q at done.Evicted)
+  suits_evicted cache at true on is = alone true _ tt
+  suits_evicted cache at false off is = absurd (taken_entry cache (entry_of q.number (lists_of c.history)) off (sym is))
 
-  -- nor does an answer
-  pub none_judged : (config : Config) (number : StripeNo) (j : Option Judged) → judge_looks q.judge ≡ false → IsJudgedIf config number c q j → NoneLooks (events_if c q j)
-  none_judged config number None off told = tt
-  none_judged config number (Some j) off told = none_done (cache_now (judged_by j)) (length (judged_by j).history) j.done off told.done_is
+  -- what is done makes only events of its kind of walk
+  pub suits_done : (cache : Cache) (at : ℕ) (d : Done) → d ≡ done_of c cache q → All (SuitsWalk (judge_looks q.judge)) (done_class_events c q at d)
+  suits_done cache at done.Reclaimed is = suits_reclaimed (judge_looks q.judge) q.who q.number q.moment at
+  suits_done cache at done.ToWarm is = suits_warm q at q.judge
+  suits_done cache at done.WithinWarm is = suits_warm q at q.judge
+  suits_done cache at done.ToCold is = suits_cold c q at q.judge
+  suits_done cache at done.Evicted is = suits_evicted cache at (judge_looks q.judge) refl is
+  suits_done cache at done.Stayed is = All-nil (SuitsWalk (judge_looks q.judge))
+  suits_done cache at (done.Alive expiry) is = All-nil (SuitsWalk (judge_looks q.judge))
+  suits_done cache at done.Stranger is = All-nil (SuitsWalk (judge_looks q.judge))
 
-  -- a class behind an answer
-  pub gains_judged : (config : Config) (number : StripeNo) (j : Option Judged) (c_new : ClassView) → judge_looks q.judge ≡ false → IsJudgedIf config number c q j
-      → c_new ≡ class_with c (events_if c q j) c_new.room → GainsFor false c c_new
-  gains_judged config number j c_new off told is = record {
+  -- so does an answer
+  pub suits_judged : (config : Config) (number : StripeNo) (j : Option Judged) → IsJudgedIf config number c q j → All (SuitsWalk (judge_looks q.judge)) (events_if c q j)
+  suits_judged config number None told = All-nil (SuitsWalk (judge_looks q.judge))
+  suits_judged config number (Some j) told = suits_done (cache_now (judged_by j)) (length (judged_by j).history) j.done told.done_is
+
+  -- a class after an answer
+  pub gains_judged : (config : Config) (number : StripeNo) (j : Option Judged) (c_new : ClassView) → IsJudgedIf config number c q j
+      → c_new ≡ class_with c (events_if c q j) c_new.room → GainsFor (judge_looks q.judge) c c_new
+  gains_judged config number j c_new told is = record {
     grows = record {
       same = is ∙ ap (λ (h : List ClassEvent). record c { history = h; room = c_new.room }) (sym (ap (λ (v : ClassView). v.history) is));
       events = events_if c q j;
       history_is = ap (λ (v : ClassView). v.history) is;
     };
-    none = λ _. none_judged config number j off told;
+    each = suits_judged config number j told;
   }
 
--- nor does an answer on a walk
-pub none_answered : (p : Pull) (w : Way) (a : Answer) (o : Option Entry) → looks_for_chunk p.mode ≡ false
+-- so does an answer on a walk
+pub suits_answered : (p : Pull) (w : Way) (a : Answer) (o : Option Entry)
     → IsSomeAnd o (λ e. (a.stripe ≡ stripe_of e.key p.config.stripes) × IsJudgedIf p.config a.stripe (class_at p.class w.history) (question_at p w e) a.judged)
-    → NoneLooks (events_at p w o a.judged)
-none_answered p w a None off asks = tt
-none_answered p w a (Some e) off asks = none_judged (class_at p.class w.history) (question_at p w e) p.config a.stripe a.judged off asks.1
+    → All (SuitsWalk (looks_for_chunk p.mode)) (events_at p w o a.judged)
+suits_answered p w a None asks = All-nil (SuitsWalk (looks_for_chunk p.mode))
+suits_answered p w a (Some e) asks = suits_judged (class_at p.class w.history) (question_at p w e) p.config a.stripe a.judged asks.1
 
--- a class that made off event
+-- a class that made no event
 pub gains_room : (looks : Bool) (c c_new : ClassView) → c_new ≡ with_room c c_new.room → GainsFor looks c c_new
 gains_room looks c c_new is = record {
   grows = record {
@@ -155,7 +166,7 @@ gains_room looks c c_new is = record {
     events = [];
     history_is = ap (λ (v : ClassView). v.history) is ∙ sym (append-nil c.history);
   };
-  none = λ off. tt;
+  each = All-nil (SuitsWalk looks);
 }
 
 -- a class that was surveyed, or couldn't be
@@ -167,6 +178,6 @@ gains_surveyed c c_new who moment (Ok x) made stays = record {
     events = surveyed_event c who moment ∷ [];
     history_is = ap (λ (v : ClassView). v.history) made;
   };
-  none = λ off. ((λ h. h), tt);
+  each = alone false (surveyed_event c who moment) tt;
 }
 gains_surveyed c c_new who moment (Err f) made stays = gains_room false c c_new stays.0

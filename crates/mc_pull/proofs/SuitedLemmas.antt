@@ -1,5 +1,5 @@
 -- Each command makes only events that it may make: of its own part, and of the removal of a dead item.
-use Rattle.std.proofs.Common.{◌≡◌, ℕ, List, Bool, true, false, Option, Some, None, refl}
+use Rattle.std.proofs.Common.{◌≡◌, ℕ, List, [], Bool, true, false, Option, Some, None}
 use Rattle.std.specs.Prelude.{◌&&◌, not, if◌then◌else◌}
 use Rattle.mc_item.specs.{Answer.delete_row, Answer.gat_row, Answer.get_row, Answer.let_go, Answer.touch_row, Cache.Cache, Cache.answer_of, Command.key_of, Item.expiry_of, Item.hit_marks}
 use Rattle.mc_item.specs.declared.{answer.Site.Site, class_event.ClassEvent.ClassEvent, command.Command.Command, command.Verb.Verb, item.Item.Item, item.Who.Who, reply.Room.Room}
@@ -13,7 +13,9 @@ use Rattle.mc_pull.specs.declared.judge.Done.TheVariants as done
 use Rattle.mc_pull.specs.declared.parts.Part.TheVariants as parts
 use Rattle.mc_pull.specs.{Judgement.done_of, Parts.entry_number, Parts.gone_part, Parts.part_events, Parts.part_for, Perform.Call, Performed.events_in, Question.question}
 use Rattle.mc_pull.specs.{Settled.done_class_events, Suited.AreSuited, Suited.MayNeedChunk, Suited.MayRemove}
-use Rattle.mc_pull.proofs.ChunkEventLemmas.{none_done}
+use Rattle.std.proofs.lemmas.List.Elements.{All-head}
+use Rattle.mc_pull.specs.Growth.{SuitsUpkeep}
+use Rattle.mc_pull.proofs.ChunkEventLemmas.{suits_done}
 
 -- a command that may need a chunk may remove an item
 pub needs_removes : (command : Command) → MayNeedChunk command → MayRemove command
@@ -33,7 +35,7 @@ suited_dead command c cache who number moment at done.Reclaimed is = (tt, tt)
 suited_dead command c cache who number moment at done.ToWarm is = tt
 suited_dead command c cache who number moment at done.WithinWarm is = tt
 suited_dead command c cache who number moment at done.ToCold is = tt
-suited_dead command c cache who number moment at done.Evicted is = absurd ((none_done c (question who number Dead moment) cache at done.Evicted refl is).0 tt)
+suited_dead command c cache who number moment at done.Evicted is = absurd (All-head SuitsUpkeep _ [] (suits_done c (question who number Dead moment) cache at done.Evicted is))
 suited_dead command c cache who number moment at done.Stayed is = tt
 suited_dead command c cache who number moment at (done.Alive expiry) is = tt
 suited_dead command c cache who number moment at done.Stranger is = tt

@@ -7,7 +7,7 @@ use Rattle.mc_pull.specs.declared.{judge.Done.Done, judge.Mode.Mode, looking.Ans
 use Rattle.mc_pull.specs.declared.judge.Done.TheVariants as done
 use Rattle.mc_pull.specs.{Growth.GainsFor, Growth.looks_for_chunk, Looks.done_in, Pulled.sum_of, Pulled.counts_after, Pulled.counts_if, Pulled.is_end_if}
 use Rattle.mc_pull.specs.Walk.{Pull, pull, Way, way, next_entry, events_at, is_going, step, run, IsAnswer, IsAlong, start_of, IsWalk}
-use Rattle.mc_pull.proofs.{ChunkEventLemmas.gains_both, ChunkEventLemmas.none_answered, LengthLemmas.few_taken, LengthLemmas.answer_passes}
+use Rattle.mc_pull.proofs.{ChunkEventLemmas.gains_both, ChunkEventLemmas.suits_answered, LengthLemmas.few_taken, LengthLemmas.answer_passes}
 
 pub run-push : (p : Pull) (w : Way) (xs : List Answer) (a : Answer) → run p w (xs ++ a ∷ []) ≡ step p (run p w xs) a
 run-push p w [] a = refl
@@ -116,7 +116,7 @@ module _ {c now after : ClassView} {old new later : List Answer} {s : Seg} {mode
   pub looked_more : GainsFor (looks_for_chunk mode) now after
   looked_more = record {
     grows = record { same = same; events = made_events; history_is = made_is };
-    none = λ no. none_answered walk before a (next_entry walk before) no asked_first.asks;
+    each = suits_answered walk before a (next_entry walk before) asked_first.asks;
   }
 
   pub looked_on : 0 < left → is_end_if (done_in a.judged) ≡ false → OnLooks c after old later s mode who moment config (left - 1) next

@@ -2,6 +2,7 @@
 use Rattle.std.specs.Prelude.{List, [], ◌∷◌}
 use Rattle.mc_item.specs.declared.{class_event.ClassEvent.ClassEvent, command.Command.Command}
 use Rattle.mc_item.specs.declared.class_event.ClassEvent.TheVariants as events
+use Rattle.mc_pull.specs.Growth.{SuitsSearch}
 use Rattle.mc_item.specs.declared.command.Command.TheVariants.{Get, Gat, Store, Huge, Incr, Decr, Touch, Delete}
 
 -- a command may need a chunk: it stores a value or counts
@@ -27,12 +28,12 @@ MayRemove (Gat key exptime) = ⊥
 MayRemove (Touch key exptime) = ⊥
 
 -- a command may make this event: each may reclaim an entry, one that may remove an item may unlink its entry, and one that may
--- need a chunk may also link, move, evict or be refused; none makes a survey or sets a limit
+-- need a chunk may also link, be refused, and search for a chunk; none makes a survey or sets a limit
 abbrev pub SuitsCommand : Command → ClassEvent → Type 0
 SuitsCommand command (events.Reclaimed e) = Unit {0}
 SuitsCommand command (events.Unlinked e) = MayRemove command
 SuitsCommand command (events.Linked e) = MayNeedChunk command
-SuitsCommand command (events.Shifted e) = MayNeedChunk command
+SuitsCommand command (events.Shifted e) = MayNeedChunk command × SuitsSearch (events.Shifted e)
 SuitsCommand command (events.Evicted e) = MayNeedChunk command
 SuitsCommand command (events.Refused e) = MayNeedChunk command
 SuitsCommand command (events.Surveyed e) = ⊥

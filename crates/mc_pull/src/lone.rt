@@ -1,6 +1,6 @@
 //! A gate that is lent one stripe, and reaches no other.
-ghost use Rattle.std.specs.Prelude.{◌≡◌, ◌≤◌, ◌+◌, ◌++◌, List, IfOk, IfErr, OnErr};
-ghost use Rattle.mc_pull.specs.{Growth.GainsEvents, Juggle.IsJuggle, Lone.IsServedAlone, Lone.LeavesAlone, Refusal.MayFail, Rounds.rounds_by};
+ghost use Rattle.std.specs.Prelude.{◌≡◌, ◌≤◌, ◌+◌, ◌++◌, List, IfOk, IfErr, OnErr, false, true};
+ghost use Rattle.mc_pull.specs.{Growth.GainsFor, Juggle.IsJuggle, Lone.IsServedAlone, Lone.LeavesAlone, Refusal.MayFail, Rounds.rounds_by};
 ghost use Rattle.mc_pull.specs.{Rounds.IsRoom, Broken.BreaksRoom, Broken.BreaksJuggle};
 ghost use Rattle.mc_pull.specs.{Walker.walker_by};
 ghost use Rattle.mc_pull.specs.declared.looking.Answer.{Answer};
@@ -67,7 +67,7 @@ impl<'a> Lone<'a> {
         ensures err { OnErr result ((xs : List Answer) × (self.new.answers.now ≡ self.old.answers.now ++ xs) × BreaksRoom (rounds_by class.old
             context.entry) class.old.history xs class.new.history) }
         ensures fault { IfErr result (MayFail class.new self.new.stripe.now) }
-        ensures grows { GainsEvents class.old class.new }
+        ensures gains { GainsFor true class.old class.new }
         ensures walked { LeavesAlone (walker_by class.old context.entry) context.entry.config.now self.old class.old.history self.new class.new.history }
     {
         make_room(context, class, self)
@@ -82,7 +82,7 @@ impl<'a> Lone<'a> {
             class.old context.entry) (MayFail class.new self.new.stripe.now) fault class.old.history xs class.new.history) }
         ensures few { IfOk result (λ moves. moves.reclaimed + moves.moved ≤ 10000) }
         ensures fault { IfErr result (MayFail class.new self.new.stripe.now) }
-        ensures grows { GainsEvents class.old class.new }
+        ensures gains { GainsFor false class.old class.new }
         ensures walked { LeavesAlone (walker_by class.old context.entry) context.entry.config.now self.old class.old.history self.new class.new.history }
     {
         juggle(context, class, self)

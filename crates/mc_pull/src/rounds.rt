@@ -1,9 +1,9 @@
 //! Rounds of walks that make room in a full class.
-ghost use Rattle.std.specs.Prelude.{◌≡◌, ◌++◌, List, false, IfOk, IfErr, OnErr};
+ghost use Rattle.std.specs.Prelude.{◌≡◌, ◌++◌, List, true, false, IfOk, IfErr, OnErr};
 ghost use Rattle.mc_pull.specs.{
   Gates.IsServedBy,
   Gates.LeavesGate,
-  Growth.GainsEvents,
+  Growth.GainsFor,
   Rounds.rounds_by,
   Rounds.IsRoomRound,
   Rounds.IsRoom,
@@ -41,7 +41,7 @@ fn room_round<G: Gate>(
         class.old.history xs class.new.history) }
     ensures err { OnErr result ((xs : List Answer) × (G.answers gate.new ≡ G.answers gate.old ++ xs) × BreaksRoomRound (rounds_by class.old context.entry)
         class.old.history xs class.new.history) }
-    ensures grows { GainsEvents class.old class.new }
+    ensures gains { GainsFor true class.old class.new }
     ensures fault { IfErr result (G.faults gate.new class.new) }
     ensures gate { LeavesGate G.references G.serves G.keeps context.entry.config.now (walker_by class.old context.entry) gate.old class.old gate.new class.new }
 {
@@ -65,7 +65,7 @@ pub fn make_room<G: Gate>(
         class.old.history xs class.new.history found) }
     ensures err { OnErr result ((xs : List Answer) × (G.answers gate.new ≡ G.answers gate.old ++ xs) × BreaksRoom (rounds_by class.old context.entry)
         class.old.history xs class.new.history) }
-    ensures grows { GainsEvents class.old class.new }
+    ensures gains { GainsFor true class.old class.new }
     ensures fault { IfErr result (G.faults gate.new class.new) }
     ensures gate { LeavesGate G.references G.serves G.keeps context.entry.config.now (walker_by class.old context.entry) gate.old class.old gate.new class.new }
 {

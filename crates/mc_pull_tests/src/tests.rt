@@ -7,7 +7,6 @@ mod breaking;
 mod by_list;
 mod crawling;
 mod crawls;
-mod hits;
 mod hitting;
 mod judgements;
 mod judging;

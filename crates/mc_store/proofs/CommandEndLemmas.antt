@@ -16,11 +16,11 @@ use Rattle.mc_stripe.specs.declared.{wanting.Want.Want, trying.Turn.Turn}
 use Rattle.mc_pull.specs.{Perform.answer_to, Perform.call, Question.IsStripeOf}
 use Rattle.mc_store.specs.{Accounts.Enters, Accounts.IsOfCommand, Accounts.Stretch, Callers.answered_at, Calls.IsRepliedAs, Commands.IsCut, Commands.IsSearch, Commands.burial, Earned.IsEarned, Earned.IsEarnedIn}
 use Rattle.mc_store.specs.Held.{Ends, IsMadeIn, IsWalked, Suffice, nothing}
-use Rattle.mc_store.specs.{Passes.CallerView, Full.IsFullFor, Searches.IsSearchFor, Searches.IsSearchUpTo, Sides.StripeSide, Sides.stripe_sight}
+use Rattle.mc_store.specs.{Passes.CallerView, Full.IsFullFor, Searches.IsSearchFor, Searches.IsSearchUpTo, Searches.searcher, Searches.searcher_at, Sides.StripeSide, Sides.stripe_sight}
 use Rattle.mc_store.proofs.CommandLemmas.{buried_alive, buried_row, cache_same, fresh_visible, led_same, not_dead, row_same}
-use Rattle.mc_store.proofs.{EarnedRefusalLemmas.earned_told}
+use Rattle.mc_store.proofs.EarnedRefusalLemmas.{earned_told, search_wider, up_to_wider}
 use Rattle.mc_store.proofs.FullLemmas.{full_buried, full_same}
-use Rattle.mc_store.proofs.AccountLemmas.{enters_both, enters_more}
+use Rattle.mc_store.proofs.AccountLemmas.{enters_both, enters_more, grows_itself}
 use Rattle.mc_store.proofs.EnteredLemmas.{StillMakes, command_as, makes_buried, makes_then_tried, makes_tried, no_stretch, noted_still}
 use Rattle.mc_store.specs.Trying.{StillBuries, StillTries}
 use Rattle.mc_store.specs.declared.replied.Replied.{Replied}
@@ -34,10 +34,10 @@ module _ (config : Config) (command : Command) (turn : Turn) where
   Makes stretch own own_new caller caller_new = StillMakes config command turn stretch own own_new caller caller_new
 
   abbrev Sought : (own end : StripeSide) → Stretch → Type 0
-  Sought own end stretch = IsSearchFor config (visible_row own.stripe command turn.moment).need turn.who turn.moment end.sight stretch
+  Sought own end stretch = IsSearchFor (searcher_at config own.stripe turn) (visible_row own.stripe command turn.moment).need (stripe_sight own) end.sight stretch
 
   abbrev SoughtUpTo : (own end : StripeSide) → Stretch → Type 0
-  SoughtUpTo own end stretch = IsSearchUpTo config (visible_row own.stripe command turn.moment).need turn.who turn.moment end.sight stretch
+  SoughtUpTo own end stretch = IsSearchUpTo (searcher_at config own.stripe turn) (visible_row own.stripe command turn.moment).need (stripe_sight own) end.sight stretch
 
   -- a walk in the class that is needed is a search
   pub searched_walk : (s s_new : Stripe) (class : ClassNo) → IsAlive (item_of s command) turn.moment → (row_at s command turn.moment).need ≡ needs.Fresh class
@@ -150,13 +150,23 @@ module _ (config : Config) (command : Command) (turn : Turn) where
       (command_as config own.stripe mid.stripe command turn.moment stretch site dead row) enters)
 
   -- and the search is for what is needed
-  sought_behind : (stretch : Stretch) (own mid end : StripeSide) → visible_row mid.stripe command turn.moment ≡ visible_row own.stripe command turn.moment
-      → Sought mid end stretch → Sought own end stretch
-  sought_behind stretch own mid end row sought = subst (λ (r : Row). IsSearchFor config r.need turn.who turn.moment end.sight stretch) row sought
+  sought_behind : (stretch : Stretch) (own mid end : StripeSide) → KeepsSite own.stripe mid.stripe → Grows (stripe_sight own) (stripe_sight mid)
+      → visible_row mid.stripe command turn.moment ≡ visible_row own.stripe command turn.moment → Sought mid end stretch → Sought own end stretch
+  sought_behind stretch own mid end site begins row sought =
+      let by = searcher_at config own.stripe turn in
+      let need = (visible_row mid.stripe command turn.moment).need in
+      search_wider by (visible_row own.stripe command turn.moment).need (stripe_sight own) (stripe_sight mid) end.sight end.sight stretch begins (grows_itself end.sight)
+      (subst (λ (r : Row). IsSearchFor by r.need (stripe_sight mid) end.sight stretch) row
+      (subst (λ (t : Site). IsSearchFor (searcher config t.stripe turn.who turn.moment) need (stripe_sight mid) end.sight stretch) site.site sought))
 
-  up_to_behind : (stretch : Stretch) (own mid end : StripeSide) → visible_row mid.stripe command turn.moment ≡ visible_row own.stripe command turn.moment
-      → SoughtUpTo mid end stretch → SoughtUpTo own end stretch
-  up_to_behind stretch own mid end row sought = subst (λ (r : Row). IsSearchUpTo config r.need turn.who turn.moment end.sight stretch) row sought
+  up_to_behind : (stretch : Stretch) (own mid end : StripeSide) → KeepsSite own.stripe mid.stripe → Grows (stripe_sight own) (stripe_sight mid)
+      → visible_row mid.stripe command turn.moment ≡ visible_row own.stripe command turn.moment → SoughtUpTo mid end stretch → SoughtUpTo own end stretch
+  up_to_behind stretch own mid end site begins row sought =
+      let by = searcher_at config own.stripe turn in
+      let need = (visible_row mid.stripe command turn.moment).need in
+      up_to_wider by (visible_row own.stripe command turn.moment).need (stripe_sight own) (stripe_sight mid) end.sight end.sight stretch begins (grows_itself end.sight)
+      (subst (λ (r : Row). IsSearchUpTo by r.need (stripe_sight mid) end.sight stretch) row
+      (subst (λ (t : Site). IsSearchUpTo (searcher config t.stripe turn.who turn.moment) need (stripe_sight mid) end.sight stretch) site.site sought))
 
   -- a stripe of the same history has the same item
   same_dead : (s mid : Stripe) → KeepsSite s mid → mid.history ≡ s.history → (P : Link → Type 0)
@@ -219,7 +229,7 @@ module _ (config : Config) (command : Command) (turn : Turn) where
           stretch = ends.stretch;
           enters = entered_behind ends.stretch own mid end caller caller_mid caller_new site.site (same_dead s last site same) (row_same command turn.moment s last site same)
               (makes_tried config command turn ends.stretch own mid still) ends.sees ends.enters;
-          search = sought_behind ends.stretch own mid end (row_same command turn.moment s last site same) ends.search;
+          search = sought_behind ends.stretch own mid end site still.sees (row_same command turn.moment s last site same) ends.search;
           cut_search = tt;
           site = site_both s last end.stripe site ends.site;
           full = λ is. full_same config s last end.stripe end.sight command turn.moment site same (ends.full is);
@@ -237,7 +247,7 @@ module _ (config : Config) (command : Command) (turn : Turn) where
           enters = entered_behind ends.stretch own mid end caller caller_mid caller_new site.site (same_dead s last site same) (row_same command turn.moment s last site same)
               (makes_tried config command turn ends.stretch own mid still) ends.sees ends.enters;
           search = tt;
-          cut_search = up_to_behind ends.stretch own mid end (row_same command turn.moment s last site same) ends.cut_search;
+          cut_search = up_to_behind ends.stretch own mid end site still.sees (row_same command turn.moment s last site same) ends.cut_search;
           site = site_both s last end.stripe site ends.site;
           full = λ is. full_same config s last end.stripe end.sight command turn.moment site same (ends.full is);
         }
@@ -259,7 +269,7 @@ module _ (config : Config) (command : Command) (turn : Turn) where
           stretch = ends.stretch;
           enters = entered_behind ends.stretch own mid end caller caller_mid caller_new site.site (no_dead last s (buried_alive s last turn.who command turn.moment site buried))
               (buried_row s last turn.who command turn.moment site buried) (makes_buried config command turn ends.stretch own mid link dead still) ends.sees ends.enters;
-          search = sought_behind ends.stretch own mid end (buried_row s last turn.who command turn.moment site buried) ends.search;
+          search = sought_behind ends.stretch own mid end site still.sees (buried_row s last turn.who command turn.moment site buried) ends.search;
           cut_search = tt;
           site = site_both s last end.stripe site ends.site;
           full = λ is. full_buried config turn.who s last end.stripe end.sight command turn.moment site buried (ends.full is);
@@ -277,7 +287,7 @@ module _ (config : Config) (command : Command) (turn : Turn) where
           enters = entered_behind ends.stretch own mid end caller caller_mid caller_new site.site (no_dead last s (buried_alive s last turn.who command turn.moment site buried))
               (buried_row s last turn.who command turn.moment site buried) (makes_buried config command turn ends.stretch own mid link dead still) ends.sees ends.enters;
           search = tt;
-          cut_search = up_to_behind ends.stretch own mid end (buried_row s last turn.who command turn.moment site buried) ends.cut_search;
+          cut_search = up_to_behind ends.stretch own mid end site still.sees (buried_row s last turn.who command turn.moment site buried) ends.cut_search;
           site = site_both s last end.stripe site ends.site;
           full = λ is. full_buried config turn.who s last end.stripe end.sight command turn.moment site buried (ends.full is);
         }

@@ -1,9 +1,9 @@
 -- A refusal that was earned: when it is noted, and as more is seen.
-use Rattle.std.proofs.Common.{◌≡◌, ◌<◌, ◌+◌, ◌⊎◌, ℕ, zero, suc, Bool, true, false, List, [], ◌∷◌, ◌++◌, inl, inr, length, length-append, refl, sym, ap, ◌∙◌, arith, subst, append-nil, append_assoc}
-use Rattle.std.specs.Prelude.{◌≤◌, Option, Some, None, IfSome}
+use Rattle.std.proofs.Common.{◌≡◌, ◌<◌, ◌+◌, ◌⊎◌, ℕ, zero, suc, Bool, true, false, List, [], ◌∷◌, ◌++◌, inl, inr, Result, Ok, Err, length, length-append, refl, sym, ap, ◌∙◌, arith, subst, append-nil, append_assoc}
+use Rattle.std.specs.Prelude.{◌≤◌, Option, Some, None, IfSome, MatchResult}
 use mathlib.Core.List.{IsPrefix}
 use Rattle.mc_item.specs.{Command.key_of, Measure.stripe_of}
-use Rattle.mc_item.specs.declared.{answer.Need.Need, answer.Site.Site, class_event.ClassEvent.ClassEvent, command.Command.Command, config.Config.Config, item.ClassNo.ClassNo}
+use Rattle.mc_item.specs.declared.{answer.Need.Need, answer.Site.Site, class_event.ClassEvent.ClassEvent, command.Command.Command, config.Config.Config, fault.Fault.Fault, item.ClassNo.ClassNo}
 use Rattle.mc_item.specs.declared.{item.StripeNo.StripeNo, item.Who.Who, lists.Entry.Entry, lists.Seg.Seg, lists.Seg.TheVariants.Hot}
 use Rattle.mc_item.specs.declared.{lists.Seg.TheVariants.Cold, reply.Reply.Reply, reply.Room.Room, stripe_event.Did.Did}
 use Rattle.mc_item.specs.declared.answer.Need.TheVariants as needs
@@ -13,7 +13,7 @@ use Rattle.mc_rule.specs.{Lists.IsFull, Lists.from_tail, Lists.list_of, Lists.li
 use Rattle.mc_evidence.specs.{Refusals.HasTried, Refusals.NoneNear, Refusals.WasTried, Seen.class_events, Seen.classes_seen}
 use Rattle.mc_evidence.proofs.{EvidenceGrowthLemmas.tried_later, SeenLemmas.class_events-map, SeenLemmas.classes_grow}
 use Rattle.mc_pull.specs.{Tried.IsNoneNear, Question.IsClassOf, Rounds.ForcesHot, Rounds.IsRoom, Rounds.IsRoomRound, Rounds.Repeats, Rounds.Rounds, Rounds.Walks, Rounds.rounds}
-use Rattle.mc_pull.specs.{Broken.BreaksRoom, Pulled.did_something}
+use Rattle.mc_pull.specs.Pulled.{did_something}
 use Rattle.mc_pull.specs.declared.{judge.Mode.Mode, judge.Mode.TheVariants.Evict, judge.Mode.TheVariants.Force, looking.Answer.Answer, pulled.Pulled.Pulled}
 use Rattle.mc_pull.proofs.SearchTriedLemmas.{walk_tried}
 use Rattle.mc_board.specs.Histories.{Grows, list_at}
@@ -22,7 +22,10 @@ use Rattle.mc_board.proofs.PrefixLemmas.{prefix_trans}
 use Rattle.mc_segment.specs.{ClassCalls.Makes, ClassCalls.Stays, ClassCalls.refused_event, ClassState.ClassView, ClassState.chunks_for, ClassState.class_view, ClassState.opened}
 use Rattle.mc_store.specs.Earned.{HasGoneThrough, HasSearched, IsInVain, IsEarned, IsEarnedAt, IsEarnedIn, IsLastResort}
 use Rattle.mc_store.specs.{Accounts.Stretch, Accounts.stretch_of, Locked.class_lock, Sides.class_told}
-use Rattle.mc_store.specs.Searches.{HasSeenOf, IsSearchBroken, IsSearchFor, IsSearchUpTo, IsSearchedIf, IsSearchedOnce}
+use Rattle.mc_store.specs.Reached.{IsSeenState}
+use Rattle.mc_store.specs.Searches.{HasSeenOf, IsSearchBroken, IsSearchFor, IsSearchUpTo, IsSearchedWith, IsSearchedIf, IsSearchedOnce, Searcher, rounds_in}
+use Rattle.mc_store.proofs.{AccountLemmas.grows_itself, ReachedLemmas.judged_more, ReachedLemmas.state_sees}
+use Rattle.mc_stripe.specs.StripeState.{Stripe}
 
 -- who has seen all that a class told has seen its history
 pub class_seen : (config : Config) (sight : Sight) (lock : ℕ) (class : ClassNo) (history : List ClassEvent) → lock ≡ class_lock config class → list_at sight.seen lock ≡ class_told history
@@ -60,21 +63,35 @@ gone_through config number v class who moment after made is vain = record {
 -- ---- one search
 
 -- rounds that made room in a class are one search of it
-pub searched_once : (config : Config) (v : ClassView) (who : Who) (moment : ℕ) (answers : List Answer) (after : List ClassEvent) (found : Bool) → IsClassOf config v
-    → IsRoom (rounds v who moment config) v.history answers after found → IsSearchedOnce config v.number who moment v.history after
-searched_once config v who moment answers after found made room = record {
-  answers = answers;
-  found = found;
-  room = subst (λ (r : Rounds). IsRoom r v.history answers after found) (rounds_same config v v.number who moment made refl) room;
-}
+pub searched_once : (by : Searcher) (v : ClassView) (States : Stripe → Type 0) (after : List ClassEvent) (found : Bool) → IsClassOf by.config v
+    → IsSearchedWith (rounds v by.who by.moment by.config) by.number States v.history after found → IsSearchedOnce (rounds_in by v.number) by.number States v.history after
+searched_once by v States after found made searched =
+    (found, subst (λ (r : Rounds). IsSearchedWith r by.number States v.history after found) (rounds_same by.config v v.number by.who by.moment made refl) searched)
 
 -- and rounds that a fault ended are a search that it broke off
-pub searched_broken : (config : Config) (v : ClassView) (who : Who) (moment : ℕ) (answers : List Answer) (after : List ClassEvent) → IsClassOf config v
-    → BreaksRoom (rounds v who moment config) v.history answers after → IsSearchBroken config v.number who moment v.history after
-searched_broken config v who moment answers after made room = record {
-  answers = answers;
-  room = subst (λ (r : Rounds). BreaksRoom r v.history answers after) (rounds_same config v v.number who moment made refl) room;
-}
+pub searched_broken : (by : Searcher) (v : ClassView) (States : Stripe → Type 0) (after : List ClassEvent) → IsClassOf by.config v
+    → IsSearchBroken (rounds v by.who by.moment by.config) by.number States v.history after → IsSearchBroken (rounds_in by v.number) by.number States v.history after
+searched_broken by v States after made broken =
+    subst (λ (r : Rounds). IsSearchBroken r by.number States v.history after) (rounds_same by.config v v.number by.who by.moment made refl) broken
+
+-- what holds of its states holds in other words, too
+pub once_more : (r : Rounds) (number : StripeNo) (R Q : Stripe → Type 0) → ((s : Stripe) → R s → Q s) → (before after : List ClassEvent) → IsSearchedOnce r number R before after
+    → IsSearchedOnce r number Q before after
+once_more r number R Q more before after once =
+    let it = once.1 in
+    (once.0, record { answers = it.answers; room = it.room; had = it.had; states = judged_more R Q more it.answers it.states })
+
+pub broken_more : (r : Rounds) (number : StripeNo) (R Q : Stripe → Type 0) → ((s : Stripe) → R s → Q s) → (before after : List ClassEvent) → IsSearchBroken r number R before after
+    → IsSearchBroken r number Q before after
+broken_more r number R Q more before after broken =
+    record { answers = broken.answers; room = broken.room; had = broken.had; states = judged_more R Q more broken.answers broken.states }
+
+-- however a search ended, what holds of its states holds in other words, too
+pub room_wider : (r : Rounds) (number : StripeNo) (R Q : Stripe → Type 0) → ((s : Stripe) → R s → Q s) → (before after : List ClassEvent) (result : Result Bool Fault)
+    → MatchResult result (IsSearchedWith r number R before after) (λ fault. IsSearchBroken r number R before after)
+    → MatchResult result (IsSearchedWith r number Q before after) (λ fault. IsSearchBroken r number Q before after)
+room_wider r number R Q more before after (Ok found) it = record { answers = it.answers; room = it.room; had = it.had; states = judged_more R Q more it.answers it.states }
+room_wider r number R Q more before after (Err fault) it = broken_more r number R Q more before after it
 
 -- a walk only adds to a history
 walk_longer : (r : Rounds) (s : Seg) (mode : Mode) (before after : List ClassEvent) (xs : List Answer) (pulled : Pulled) → Walks r s mode before xs after pulled → length before ≤ length after
@@ -104,23 +121,23 @@ rounds_longer r (suc times) before after xs each =
     omega (arith, first, more)
 
 -- a search, if there was one, only adds to a class's history
-pub search_longer : (config : Config) (who : Who) (moment : ℕ) (sight : Sight) (v w : ClassView) → IsSearchedIf config who moment sight v w → length v.history ≤ length w.history
-search_longer config who moment sight v w (inl free) =
+pub search_longer : (by : Searcher) (seen sight : Sight) (v w : ClassView) → IsSearchedIf by seen sight v w → length v.history ≤ length w.history
+search_longer by seen sight v w (inl free) =
     let long : length w.history ≡ length v.history = ap (λ (h : List ClassEvent). length h) free.1 in omega (arith, long)
-search_longer config who moment sight v w (inr searched) =
-    let room = searched.0.room in
-    rounds_longer (rounds (opened config v.number) who moment config) room.times v.history w.history searched.0.answers room.each
+search_longer by seen sight v w (inr searched) =
+    let it = searched.0.1 in
+    rounds_longer (rounds_in by v.number) it.room.times v.history w.history it.answers it.room.each
 
 -- the history of a class that was seen was seen by whoever has seen more
 pub seen_of_grows : (config : Config) (class : ClassNo) (history : List ClassEvent) (a b : Sight) → Grows a b → HasSeenOf config a class history → HasSeenOf config b class history
 seen_of_grows config class history a b grows seen =
     let lock = class_lock config class in prefix_trans (class_told history) (list_at a.seen lock) (list_at b.seen lock) seen (grows.at lock)
 
--- a search for what is needed is one by whoever has seen more
-pub search_grows : (config : Config) (need : Need) (who : Who) (moment : ℕ) (a b : Sight) (stretch : Stretch) → Grows a b → IsSearchFor config need who moment a stretch
-    → IsSearchFor config need who moment b stretch
-search_grows config need who moment a b stretch grows (inl none) = inl none
-search_grows config need who moment a b stretch grows (inr search) =
+-- a search for what is needed is one by states after less was seen, and by whoever has seen more
+pub search_wider : (by : Searcher) (need : Need) (less seen a b : Sight) (stretch : Stretch) → Grows less seen → Grows a b → IsSearchFor by need seen a stretch
+    → IsSearchFor by need less b stretch
+search_wider by need less seen a b stretch begins grows (inl none) = inl none
+search_wider by need less seen a b stretch begins grows (inr search) =
     let one = search.2 in
     inr (
       search.0,
@@ -128,20 +145,21 @@ search_grows config need who moment a b stretch grows (inr search) =
       record {
         before = one.before;
         searched = one.searched;
-        once = one.once;
+        once = once_more (rounds_in by search.0) by.number (IsSeenState by.config.stripes seen a) (IsSeenState by.config.stripes less b)
+            (state_sees by.config.stripes less seen a b begins grows) one.before one.searched one.once;
         refusal = one.refusal;
         refusal_is = one.refusal_is;
         from_is = one.from_is;
         until_is = one.until_is;
-        seen = seen_of_grows config search.0 (one.searched ++ one.refusal) a b grows one.seen;
+        seen = seen_of_grows by.config search.0 (one.searched ++ one.refusal) a b grows one.seen;
       },
     )
 
 -- so is one that a fault may have broken off
-pub up_to_grows : (config : Config) (need : Need) (who : Who) (moment : ℕ) (a b : Sight) (stretch : Stretch) → Grows a b → IsSearchUpTo config need who moment a stretch
-    → IsSearchUpTo config need who moment b stretch
-up_to_grows config need who moment a b stretch grows (inl whole) = inl (search_grows config need who moment a b stretch grows whole)
-up_to_grows config need who moment a b stretch grows (inr cut) =
+pub up_to_wider : (by : Searcher) (need : Need) (less seen a b : Sight) (stretch : Stretch) → Grows less seen → Grows a b → IsSearchUpTo by need seen a stretch
+    → IsSearchUpTo by need less b stretch
+up_to_wider by need less seen a b stretch begins grows (inl whole) = inl (search_wider by need less seen a b stretch begins grows whole)
+up_to_wider by need less seen a b stretch begins grows (inr cut) =
     let one = cut.2 in
     inr (
       cut.0,
@@ -149,21 +167,22 @@ up_to_grows config need who moment a b stretch grows (inr cut) =
       record {
         before = one.before;
         searched = one.searched;
-        broken = one.broken;
+        broken = broken_more (rounds_in by cut.0) by.number (IsSeenState by.config.stripes seen a) (IsSeenState by.config.stripes less b)
+            (state_sees by.config.stripes less seen a b begins grows) one.before one.searched one.broken;
         from_is = one.from_is;
         until_is = one.until_is;
-        seen = seen_of_grows config cut.0 one.searched a b grows one.seen;
+        seen = seen_of_grows by.config cut.0 one.searched a b grows one.seen;
       },
     )
 
 -- the places that a class gained by a search, if there was one, are a search for what is needed
-pub search_alone : (config : Config) (need : Need) (who : Who) (moment : ℕ) (sight : Sight) (v w : ClassView) → need ≡ needs.Fresh v.number → IsSearchedIf config who moment sight v w
-    → IsSearchFor config need who moment sight (stretch_of v w)
-search_alone config need who moment sight v w fresh (inl free) =
+pub search_alone : (by : Searcher) (need : Need) (seen sight : Sight) (v w : ClassView) → need ≡ needs.Fresh v.number → IsSearchedIf by seen sight v w
+    → IsSearchFor by need seen sight (stretch_of v w)
+search_alone by need seen sight v w fresh (inl free) =
     let long : length w.history ≡ length v.history = ap (λ (h : List ClassEvent). length h) free.1 in
     let none : length w.history ≤ length v.history = omega (arith, long) in
     inl none
-search_alone config need who moment sight v w fresh (inr searched) =
+search_alone by need seen sight v w fresh (inr searched) =
     let same : w.history ≡ w.history ++ [] = sym (append-nil w.history) in
     inr (
       v.number,
@@ -176,7 +195,7 @@ search_alone config need who moment sight v w fresh (inr searched) =
         refusal_is = inl refl;
         from_is = refl;
         until_is = ap (λ (h : List ClassEvent). length h) same;
-        seen = subst (λ (h : List ClassEvent). HasSeenOf config sight v.number h) same searched.1;
+        seen = subst (λ (h : List ClassEvent). HasSeenOf by.config sight v.number h) same searched.1;
       },
     )
 
@@ -191,30 +210,31 @@ stayed_longer v w stays =
     let long : length w.history ≡ length v.history = ap (λ (c : ClassView). length c.history) stays.0 in omega (arith, long)
 
 -- the places that a class gained by a search, and those that it gained behind a try that made nothing, are in those that it gained in all
-pub refused_bounds : (config : Config) (who : Who) (moment : ℕ) (sight : Sight) (v w x y : ClassView) → IsSearchedIf config who moment sight v w → x.history ≡ w.history
+pub refused_bounds : (by : Searcher) (seen sight : Sight) (v w x y : ClassView) → IsSearchedIf by seen sight v w → x.history ≡ w.history
     → length x.history ≤ length y.history
     → ((length v.history ≤ length v.history) × (length w.history ≤ length y.history)) × ((length v.history ≤ length x.history) × (length y.history ≤ length y.history))
-refused_bounds config who moment sight v w x y searched same more =
-    let first = search_longer config who moment sight v w searched in
+refused_bounds by seen sight v w x y searched same more =
+    let first = search_longer by seen sight v w searched in
     let long : length x.history ≡ length w.history = ap (λ (h : List ClassEvent). length h) same in
     ((omega arith, omega (arith, long, more)), (omega (arith, first, long), omega arith))
 
 -- a search and the refusal behind it are one for what is needed, where the search left the class full
-pub search_refused : (config : Config) (need : Need) (who : Who) (moment : ℕ) (a b : Sight) (v w x : ClassView) → need ≡ needs.Fresh v.number → IsFull w.chunks w.history
-    → IsSearchedIf config who moment a v w → x.history ≡ w.history ++ refused_event who ∷ [] → HasSeenOf config b v.number x.history → IsSearchFor config need who moment b (stretch_of v x)
-search_refused config need who moment a b v w x fresh full (inl free) is seen = absurd (free.0 full)
-search_refused config need who moment a b v w x fresh full (inr searched) is seen = inr (
+pub search_refused : (by : Searcher) (need : Need) (seen a b : Sight) (v w x : ClassView) → Grows a b → need ≡ needs.Fresh v.number → IsFull w.chunks w.history
+    → IsSearchedIf by seen a v w → x.history ≡ w.history ++ refused_event by.who ∷ [] → HasSeenOf by.config b v.number x.history → IsSearchFor by need seen b (stretch_of v x)
+search_refused by need seen a b v w x grows fresh full (inl free) is whole = absurd (free.0 full)
+search_refused by need seen a b v w x grows fresh full (inr searched) is whole = inr (
   v.number,
   fresh,
   record {
     before = v.history;
     searched = w.history;
-    once = searched.0;
-    refusal = refused_event who ∷ [];
+    once = once_more (rounds_in by v.number) by.number (IsSeenState by.config.stripes seen a) (IsSeenState by.config.stripes seen b)
+        (state_sees by.config.stripes seen seen a b (grows_itself seen) grows) v.history w.history searched.0;
+    refusal = refused_event by.who ∷ [];
     refusal_is = inr refl;
     from_is = refl;
     until_is = ap (λ (h : List ClassEvent). length h) is;
-    seen = subst (λ (h : List ClassEvent). HasSeenOf config b v.number h) is seen;
+    seen = subst (λ (h : List ClassEvent). HasSeenOf by.config b v.number h) is whole;
   },
 )
 

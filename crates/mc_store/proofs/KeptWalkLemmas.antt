@@ -6,8 +6,8 @@ use Rattle.mc_board.specs.declared.rule.Sight.{Sight}
 use Rattle.mc_stripe.specs.StripeState.{Stripe}
 use Rattle.mc_pull.specs.{Lone.StripeGrows, Walker.Walker}
 use Rattle.mc_pull.specs.declared.looking.Answer.{Answer}
-use Rattle.mc_store.specs.{Looked.HasLooked, Looked.IsOfCall, Made.SearchesOwn, Made.WalksOwn, Passes.CallerView, Reached.GainsAnswers, Walking.StillWalksFrom}
-use Rattle.mc_store.proofs.{GateLemmas.grew_itself, GateLemmas.no_shorter, GateLemmas.still_unwalked, OwnEventLemmas.searches_none, OwnEventLemmas.walks_none, ReachedLemmas.answers_none}
+use Rattle.mc_store.specs.{Looked.HasLooked, Looked.IsOfCall, Made.WalksOwn, Passes.CallerView, Reached.GainsAnswers, Walking.StillWalksFrom}
+use Rattle.mc_store.proofs.{GateLemmas.grew_itself, GateLemmas.no_shorter, GateLemmas.still_unwalked, OwnEventLemmas.walks_none, ReachedLemmas.answers_none}
 use Rattle.mc_store.proofs.VisitedStripeLemmas.{looked_itself}
 
 -- of a gate that only tries
@@ -25,12 +25,14 @@ kept_first config class who own moment time owner sight caller answers history =
 
 -- of a gate that has one stripe at hand
 pub searched_first : (config : Config) (w : Walker) (s : Stripe) (who : Who) (moment : ℕ) (owner : OwnerView) (sight : Sight) (caller : CallerView) (answers : List Answer) (history : List ClassEvent)
-    → StripeGrows w s s × (IsOfCall w who moment → IsOfCall w who moment × HasLooked config.stripes w s answers answers history history) × SearchesOwn w.who w.moment sight sight history history
+    → StripeGrows w s s × (IsOfCall w who moment → IsOfCall w who moment × HasLooked config.stripes w s answers answers history history) × WalksOwn w.who w.moment sight sight history history
     × (length owner.history ≤ length owner.history) × StillWalksFrom config w.class (length owner.history) w.who.turn sight sight history history caller caller
+    × GainsAnswers config.stripes sight sight answers answers
 searched_first config w s who moment owner sight caller answers history = (
   grew_itself w s,
   λ of. (of, looked_itself config.stripes w s answers history),
-  searches_none w.who w.moment sight history,
+  walks_none w.who w.moment sight history,
   no_shorter (length owner.history),
   still_unwalked config w.class (length owner.history) w.who.turn sight history caller,
+  answers_none config.stripes sight sight answers answers refl,
 )

@@ -50,7 +50,7 @@ for_chunk calls class e called = by called.begun.call refl
         call_is = is ∙ ap (λ (m : ℕ). Asked (record { command = asked.command; moment = m })) (same_moment asked.moment called.moment (ap moment_of (sym is) ∙ called.begun.handed));
       };
     }
-    by (Juggled worked) is = absurd ((subst (λ (c : CallEvent). SuitsCall class (entries.Evicted e) c) is called.own).1 tt)
+    by (Juggled worked) is = absurd ((subst (λ (c : CallEvent). SuitsCall class (entries.Evicted e) c) is called.own).1)
     by (Crawled worked) is = absurd ((subst (λ (c : CallEvent). SuitsCall class (entries.Evicted e) c) is called.own).1)
     by (Answered answered) is = absurd (subst (λ (c : CallEvent). SuitsCall class (entries.Evicted e) c) is called.own)
     by (Limits limits) is = absurd (subst (λ (c : CallEvent). SuitsCall class (entries.Evicted e) c) is called.own)

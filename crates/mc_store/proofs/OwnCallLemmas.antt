@@ -122,6 +122,7 @@ may_try_whole table config context caller owner seen c call names kept is board 
   class = subst (λ (k : Config). IsClassOf k c) (sym names) kept.held.made_with;
   names = names;
   asks = refl;
+  at = refl;
   walks = record {
     served = served_whole table config context.turn.who owner seen c kept.held is board;
     begun = begun_any config seen.sight context.turn.who context.turn.moment call begun;

@@ -1,10 +1,12 @@
 -- Events of slab classes: those that one call makes are its own, and a class that gained only such ones has each event called.
-use Rattle.std.proofs.Common.{◌≡◌, ◌<◌, ◌+◌, ℕ, zero, suc, List, [], ◌∷◌, ◌++◌, Some, Result, Ok, Err, slice_get, length, append_assoc, refl, sym, ap, ◌∙◌, subst, false, ⊎_elim}
+use Rattle.std.proofs.Common.{◌≡◌, ◌<◌, ◌+◌, ℕ, zero, suc, List, [], ◌∷◌, ◌++◌, Some, Result, Ok, Err, slice_get, length, append_assoc, Bool, refl, sym, ap, ◌∙◌, subst, ⊎_elim}
 use Rattle.std.specs.Prelude.{IfOk, OnOk, OnErr, Option, None}
+use Rattle.std.specs.List.{All}
 use Rattle.std.proofs.lemmas.List.{append-nil, append_cancel_left}
+use Rattle.std.proofs.lemmas.List.Elements.{All-head, All-same, All-tail}
 use Rattle.atomic_table.specs.Seated.{TableId}
 use Rattle.mc_item.specs.declared.{call_event.CallEvent.CallEvent, class_event.ClassEvent.ClassEvent, class_event.Surveyed.Surveyed, command.Command.Command}
-use Rattle.mc_item.specs.declared.{config.Config.Config, fault.Fault.Fault, item.ClassNo.ClassNo, item.StripeNo.StripeNo, item.Who.Who}
+use Rattle.mc_item.specs.declared.{config.Config.Config, fault.Fault.Fault, item.ClassNo.ClassNo, item.Who.Who}
 use Rattle.mc_item.specs.declared.class_event.ClassEvent.TheVariants as events
 use Rattle.mc_board.specs.{Accounts.maker_of, Histories.Grows, Histories.list_at}
 use Rattle.mc_board.specs.declared.rule.Sight.{Sight}
@@ -12,14 +14,15 @@ use Rattle.mc_board.proofs.PrefixLemmas.{prefix_self}
 use Rattle.mc_segment.specs.{ClassCalls.Makes, ClassCalls.Stays, ClassCalls.refused_event, ClassState.ClassView, ClassState.with_room}
 use Rattle.mc_stripe.specs.StripeState.{Stripe, cache_now}
 use Rattle.mc_pull.specs.declared.{judge.Done.Done, judge.Judge.Judge, judge.Judge.TheVariants.Walk, judge.Judge.TheVariants.Dead}
-use Rattle.mc_pull.specs.declared.{judge.Judge.TheVariants.Hit, looking.Answer.Answer, looking.Judged.Judged}
+use Rattle.mc_pull.specs.declared.{judge.Judge.TheVariants.Hit, looking.Judged.Judged}
 use Rattle.mc_pull.specs.declared.judge.Done.TheVariants as done
 use Rattle.mc_pull.specs.{
   Growth.GainsFor,
-  Growth.NoneLooks,
+  Growth.SuitsSearch,
+  Growth.SuitsUpkeep,
+  Growth.SuitsWalk,
   Judgement.done_of,
   Lent.EachPair,
-  Looks.IsAnswered,
   Looks.events_if,
   Looks.judged_by,
   Perform.Call,
@@ -28,14 +31,14 @@ use Rattle.mc_pull.specs.{
   Performed.IsUntouched,
 }
 use Rattle.mc_pull.specs.{Question.Question, Question.question}
-use Rattle.mc_pull.specs.Suited.{AreSuited, MayNeedChunk}
+use Rattle.mc_pull.specs.Suited.{AreSuited, MayNeedChunk, SuitsCommand}
 use Rattle.mc_pull.specs.Performed as performed
 use Rattle.mc_pull.specs.Settled.{IsSettled, done_class_events, class_with, cold_events, warm_events}
-use Rattle.mc_pull.proofs.{EventsLemmas.events_so, SuitedLemmas.needs_removes, SuitedLemmas.suited_dead, SuitedLemmas.suited_part}
+use Rattle.mc_pull.proofs.{EventsLemmas.events_so, SuitedLemmas.suited_dead, SuitedLemmas.suited_part}
 use Rattle.mc_crawl.specs.Crawl.{AreReclaims, Reclaims}
 use Rattle.mc_store.specs.Callers.{answered_at, asked_for, call_events, crawling_of, juggling_of}
 use Rattle.mc_store.specs.Locked.{HasBegunAs, HasBegunCommand, IsHeldClass, IsLockedClass, locks_for}
-use Rattle.mc_store.specs.Made.{AreCalledInClass, AreOwnEvents, GainsOwn, IsOwnEvent, NoneSurveys, SearchesOwn, SuitsCall, WalksOwn, WasCalled}
+use Rattle.mc_store.specs.Made.{AreCalledInClass, AreOwnEvents, GainsOwn, IsOwnEvent, SuitsCall, WalksOwn, WasCalled}
 use Rattle.mc_store.specs.{Passes.CallerView, Passes.HasAsked, Passes.HasCalled, Sides.ClassSide}
 use Rattle.mc_store.proofs.CallerLemmas.{asked_called, begun_as_more, class_called_prefix, get_append, was_called_so}
 use Rattle.mc_store.proofs.LockKeepsLemmas.{class_sees, grows_trans}
@@ -63,9 +66,10 @@ abbrev pub GainsFit : Who → ℕ → Command → List ClassEvent → List Class
 GainsFit who moment command history history_new = (gains : GainsOwn who moment history history_new) × AreSuited command gains.events
 
 -- a call's own events are those that its class gained
-pub none_own : (who : Who) (moment : ℕ) (c c_new : ClassView) (gains : GainsOwn who moment c.history c_new.history) → GainsFor false c c_new → NoneLooks gains.events
-none_own who moment c c_new gains more =
-    subst NoneLooks (append_cancel_left c.history more.grows.events gains.events (sym more.grows.history_is ∙ gains.history_is)) (more.none refl)
+pub suits_own : (looks : Bool) (who : Who) (moment : ℕ) (c c_new : ClassView) (gains : GainsOwn who moment c.history c_new.history) → GainsFor looks c c_new
+    → All (SuitsWalk looks) gains.events
+suits_own looks who moment c c_new gains more =
+    All-same (SuitsWalk looks) gains.events more.grows.events (append_cancel_left c.history gains.events more.grows.events (sym gains.history_is ∙ more.grows.history_is)) more.each
 
 -- ---- what calls make
 
@@ -161,84 +165,22 @@ walks_survey who moment a b h k survey by at walked = record {
   gains = gains_both who moment h k (k ++ events.Surveyed survey ∷ []) walked.gains (record { events = events.Surveyed survey ∷ []; history_is = refl; each = ((by, at), tt) });
 }
 
--- ---- searches
+-- ---- searches and upkeep
 
-none_surveys_both : (xs ys : List ClassEvent) → NoneSurveys xs → NoneSurveys ys → NoneSurveys (xs ++ ys)
-none_surveys_both [] ys first more = more
-none_surveys_both (events.Surveyed e ∷ xs) ys first more = absurd first
-none_surveys_both (events.Linked e ∷ xs) ys first more = none_surveys_both xs ys first more
-none_surveys_both (events.Unlinked e ∷ xs) ys first more = none_surveys_both xs ys first more
-none_surveys_both (events.Shifted e ∷ xs) ys first more = none_surveys_both xs ys first more
-none_surveys_both (events.Evicted e ∷ xs) ys first more = none_surveys_both xs ys first more
-none_surveys_both (events.Reclaimed e ∷ xs) ys first more = none_surveys_both xs ys first more
-none_surveys_both (events.Refused e ∷ xs) ys first more = none_surveys_both xs ys first more
-none_surveys_both (events.Limited e ∷ xs) ys first more = none_surveys_both xs ys first more
-
-surveys_warm : (q : Question) (at : ℕ) (j : Judge) → NoneSurveys (warm_events q at j)
-surveys_warm q at (Walk s mode passed) = tt
-surveys_warm q at Dead = tt
-surveys_warm q at Hit = tt
-
-surveys_cold : (c : ClassView) (q : Question) (at : ℕ) (j : Judge) → NoneSurveys (cold_events c q at j)
-surveys_cold c q at (Walk s mode passed) = tt
-surveys_cold c q at Dead = tt
-surveys_cold c q at Hit = tt
-
--- no judgement makes a survey
-surveys_done : (c : ClassView) (q : Question) (at : ℕ) (d : Done) → NoneSurveys (done_class_events c q at d)
-surveys_done c q at done.Reclaimed = tt
-surveys_done c q at done.ToWarm = surveys_warm q at q.judge
-surveys_done c q at done.WithinWarm = surveys_warm q at q.judge
-surveys_done c q at done.ToCold = surveys_cold c q at q.judge
-surveys_done c q at done.Evicted = tt
-surveys_done c q at done.Stayed = tt
-surveys_done c q at (done.Alive expiry) = tt
-surveys_done c q at done.Stranger = tt
-
-surveys_judged : (c : ClassView) (q : Question) (j : Option Judged) → NoneSurveys (events_if c q j)
-surveys_judged c q None = tt
-surveys_judged c q (Some j) = surveys_done c q (length (judged_by j).history) j.done
-
--- a search that has just begun
-pub searches_none : (who : Who) (moment : ℕ) (sight : Sight) (history : List ClassEvent) → SearchesOwn who moment sight sight history history
-unfolding walks_none gains_none
-searches_none who moment sight history = record { walked = walks_none who moment sight history; none = tt }
-
--- a search goes on with an answer
-pub searches_judged : (q : Question) (a b c : Sight) (h : List ClassEvent) (v w : ClassView) (j : Option Judged) → SearchesOwn q.who q.moment a b h v.history → Grows b c
-    → w ≡ class_with v (events_if v q j) w.room → SearchesOwn q.who q.moment a c h w.history
-unfolding walks_on gains_both gains_judged
-searches_judged q a b c h v w j so more is = record {
-  walked = walks_on q.who q.moment a b c h v.history w.history so.walked more (gains_judged v w q j is);
-  none = none_surveys_both so.walked.gains.events (events_if v q j) so.none (surveys_judged v q j);
-}
-
--- or a fault
-pub searches_failed : (who : Who) (moment : ℕ) (a b c : Sight) (h k l : List ClassEvent) → SearchesOwn who moment a b h k → Grows b c → l ≡ k → SearchesOwn who moment a c h l
-unfolding walks_on gains_both gains_none
-searches_failed who moment a b c h k l so more same = record {
-  walked = walks_on who moment a b c h k l so.walked more (gains_none who moment k l same);
-  none = none_surveys_both so.walked.gains.events [] so.none tt;
-}
-
--- or whatever a visit of another stripe came to
-pub searches_visited : {T : Type 0} (R : Stripe → Type 0) (X : Type 0) (config : Config) (stripe : StripeNo) (xs ys : List Answer) (q : Question) (a b c : Sight) (h : List ClassEvent)
-    (v w : ClassView) (made : Option Done) (r : Result T Fault)
-    → SearchesOwn q.who q.moment a b h v.history → Grows b c → OnOk r (IsAnswered R config stripe q v w xs ys made) → OnErr r ((w ≡ with_room v w.room) × X) → SearchesOwn q.who q.moment a c h w.history
-searches_visited R X config stripe xs ys q a b c h v w made (Ok x) so more answered err = searches_judged q a b c h v w answered.judged so more answered.class
-searches_visited R X config stripe xs ys q a b c h v w made (Err f) so more answered err = searches_failed q.who q.moment a b c h v.history w.history so more (ap (λ (x : ClassView). x.history) err.0)
+suited_one : (command : Command) → MayNeedChunk command → (e : ClassEvent) → SuitsSearch e → SuitsCommand command e
+suited_one command needs (events.Reclaimed e) suits = tt
+suited_one command needs (events.Evicted e) suits = needs
+suited_one command needs (events.Shifted e) suits = (needs, suits)
+suited_one command needs (events.Linked e) suits = absurd suits
+suited_one command needs (events.Unlinked e) suits = absurd suits
+suited_one command needs (events.Surveyed e) suits = absurd suits
+suited_one command needs (events.Refused e) suits = absurd suits
+suited_one command needs (events.Limited e) suits = absurd suits
 
 -- a command that may need a chunk may make what a search makes
-pub suited_search : (who : Who) (moment : ℕ) (command : Command) → MayNeedChunk command → (es : List ClassEvent) → AreOwnEvents who moment es → NoneSurveys es → AreSuited command es
-suited_search who moment command needs [] own none = tt
-suited_search who moment command needs (events.Surveyed e ∷ es) own none = absurd none
-suited_search who moment command needs (events.Unlinked e ∷ es) own none = (needs_removes command needs, suited_search who moment command needs es own.1 none)
-suited_search who moment command needs (events.Linked e ∷ es) own none = (needs, suited_search who moment command needs es own.1 none)
-suited_search who moment command needs (events.Shifted e ∷ es) own none = (needs, suited_search who moment command needs es own.1 none)
-suited_search who moment command needs (events.Evicted e ∷ es) own none = (needs, suited_search who moment command needs es own.1 none)
-suited_search who moment command needs (events.Reclaimed e ∷ es) own none = (tt, suited_search who moment command needs es own.1 none)
-suited_search who moment command needs (events.Refused e ∷ es) own none = (needs, suited_search who moment command needs es own.1 none)
-suited_search who moment command needs (events.Limited e ∷ es) own none = absurd own.0.1
+pub suited_search : (command : Command) → MayNeedChunk command → (es : List ClassEvent) → All SuitsSearch es → AreSuited command es
+suited_search command needs [] each = tt
+suited_search command needs (e ∷ es) each = (suited_one command needs e (All-head SuitsSearch e es each), suited_search command needs es (All-tail SuitsSearch e es each))
 
 -- ---- events that were called
 
@@ -252,10 +194,10 @@ of_command : (class : ClassNo) (es : List ClassEvent) (command : Command) (momen
 of_command class [] command moment fit = tt
 of_command class (e ∷ es) command moment fit = (fit.0, of_command class es command moment fit.1)
 
--- and of juggling of their class, if none looks for a chunk
-pub of_juggling : (class : ClassNo) (es : List ClassEvent) (moment : ℕ) → NoneLooks es → AreOf class es (juggling_of class moment)
-of_juggling class [] moment none = tt
-of_juggling class (e ∷ es) moment none = ((refl, none.0), of_juggling class es moment none.1)
+-- and of juggling of their class, if upkeep may make them
+pub of_juggling : (class : ClassNo) (es : List ClassEvent) (moment : ℕ) → All SuitsUpkeep es → AreOf class es (juggling_of class moment)
+of_juggling class [] moment each = tt
+of_juggling class (e ∷ es) moment each = ((refl, All-head SuitsUpkeep e es each), of_juggling class es moment (All-tail SuitsUpkeep e es each))
 
 -- an event of a class was called by one of the callers, as far as that one's history was seen
 abbrev WasMade : Config → ClassNo → ClassEvent → Sight → Type 0

@@ -5,7 +5,7 @@ use mathlib.Core.List.{IsPrefix}
 use Rattle.atomic_table.specs.Seated.{TableId}
 use Rattle.mc_item.specs.declared.{answer.Site.Site, call_event.CallEvent.CallEvent, command.Command.Command, config.Config.Config, fault.Fault.Fault}
 use Rattle.mc_item.specs.declared.{item.Link.Link, item.Who.Who, reply.Reply.Reply, event.Event.Event, event.Event.TheVariants.Call, stripe_event.Did.Did}
-use Rattle.mc_board.specs.Histories.{Grows, HasSeen, list_at}
+use Rattle.mc_board.specs.Histories.{Grows, HasSeen, list_at, with_seen}
 use Rattle.mc_board.specs.declared.{rule.Sight.Sight, rule.Span.Span}
 use Rattle.mc_board.proofs.PrefixLemmas.{prefix_self}
 use Rattle.mc_evidence.specs.{Locks.StripeKeeps, Seen.classes_seen, Setting.site_in}
@@ -13,12 +13,13 @@ use Rattle.mc_hits.specs.Views.{HandsView, hit_of}
 use Rattle.mc_evidence.proofs.{LockLemmas.stripe_sees_more, SeenLemmas.classes_grow}
 use Rattle.mc_stripe.specs.{Plan.visible_row, StripeCalls.KeepsSite}
 use Rattle.mc_stripe.specs.declared.trying.Turn.{Turn}
-use Rattle.mc_store.specs.{Accounts.Enters, Accounts.IsOfCommand, Held.Ends, Locked.IsLockedStripe, Locked.setting_of, Searches.IsSearchFor, Searches.IsSearchUpTo, Sides.StripeSide, Sides.stripe_sight, Sides.stripe_told}
+use Rattle.mc_store.specs.Searches.{IsSearchFor, IsSearchUpTo, searcher, searcher_at, sight_of}
+use Rattle.mc_store.specs.{Accounts.Enters, Accounts.IsOfCommand, Held.Ends, Locked.IsLockedStripe, Locked.setting_of, Sides.StripeSide, Sides.stripe_sight, Sides.stripe_told}
 use Rattle.mc_store.specs.{Calls.IsCutBy, Calls.IsReplied, Calls.IsRepliedBy, Calls.IsSeenGrow, Commands.IsAnswered, Commands.IsCut, Headline.answered_did, Hits.IsOffered, Hits.OffersOne}
 use Rattle.mc_store.specs.{Hits.queue_of, Hits.with_offer, Waking.MakesActive, Waking.reply_in, Waking.woken_in}
-use Rattle.mc_store.proofs.{AccountLemmas.enters_later, AccountLemmas.whole_shared, LockKeepsLemmas.site_of_number}
+use Rattle.mc_store.proofs.{AccountLemmas.enters_later, AccountLemmas.whole_grows, AccountLemmas.whole_shared, LockKeepsLemmas.site_of_number}
 use Rattle.mc_store.specs.declared.replied.Replied.{Replied}
-use Rattle.mc_store.proofs.{EarnedRefusalLemmas.search_grows, EarnedRefusalLemmas.told_sees, EarnedRefusalLemmas.up_to_grows, FullLemmas.full_grows, SyncedStepLemmas.map_length}
+use Rattle.mc_store.proofs.{EarnedRefusalLemmas.search_wider, EarnedRefusalLemmas.told_sees, EarnedRefusalLemmas.up_to_wider, FullLemmas.full_grows, SyncedStepLemmas.map_length}
 use Rattle.mc_store.specs.Callers.{HasNoneOf, asked_for, answered_at, turns_of, calls_told, moment_of}
 use Rattle.mc_store.specs.Passes.{CallerView, PassView, HasAsked, HasCalled, caller_of, next_who, pass_of}
 use Rattle.mc_item.specs.declared.call_event.CallEvent.TheVariants.{Answered, Asked, Crawled, Juggled, Limits}
@@ -30,7 +31,7 @@ pub record IsShared (config : Config) (number : ℕ) (before after : PassView) (
 
 module _ {table : TableId} {config : Config} {number : ℕ} {old new : StripeSide} (before : PassView) {after : Sight} (old_kept : IsLockedStripe table config old) (new_kept : IsLockedStripe table config new)
     (number_is : old.stripe.site.stripe ≡ number) (seen : HasSeen (stripe_told old.stripe.history) before.sight old.lock)
-    (told : list_at after.seen new.lock ≡ stripe_told new.stripe.history) (grows : Grows new.sight after) where
+    (told : list_at after.seen new.lock ≡ stripe_told new.stripe.history) (learnt : Grows before.sight old.sight) (grows : Grows new.sight after) where
   seen_grow : KeepsSite old.stripe new.stripe → IsSeenGrow config number before.sight after old.stripe new.stripe
   seen_grow site =
       let number_new : new.stripe.site.stripe ≡ number = ap (λ (t : Site). t.stripe) site.site ∙ number_is in record {
@@ -58,6 +59,15 @@ module _ {table : TableId} {config : Config} {number : ℕ} {old new : StripeSid
       (subst (λ (m : List Span). Enters Suits turn.who.turn after m caller_new.made) made
       (enters_later Suits turn.who.turn {mid = stripe_sight new} {after = after} caller.made caller_new.made all_shared ends.enters))
 
+  -- what the pass had seen, and the whole history of the command's stripe
+  abbrev first_sight : ℕ → Sight
+  first_sight k = with_seen before.sight k (stripe_told old.stripe.history)
+
+  first_grows : Grows (first_sight old.stripe.site.stripe) (stripe_sight old)
+  first_grows =
+      let told = stripe_told old.stripe.history in
+      subst (λ (k : ℕ). Grows (first_sight k) (stripe_sight old)) old_kept.lock_is (whole_grows old.lock told told (prefix_self told) learnt)
+
   -- a command that ended under the lock of its stripe is shared so with its pass
   pub shared_by : {caller caller_new : CallerView} {command : Command} {turn : Turn} (r : Result Replied Fault) (hands : HandsView)
       → Ends config old new caller caller_new command turn r → turn.who ≡ next_who before → caller.calls ≡ before.calls ++ asked_for command turn.moment ∷ [] → caller.made ≡ before.made
@@ -83,8 +93,9 @@ module _ {table : TableId} {config : Config} {number : ℕ} {old new : StripeSid
           account = record {
             stretch = ends.stretch;
             enters = entered_by (Ok reply) ends who made;
-            search = subst (λ (w : Who). IsSearchFor config need w turn.moment after ends.stretch) who
-                (search_grows config need turn.who turn.moment new.sight after ends.stretch grows ends.search);
+            search = subst (λ (w : Who). IsSearchFor (searcher config number w turn.moment) need (sight_of (searcher config number w turn.moment) before.sight old.stripe) after ends.stretch) who
+                (subst (λ (k : ℕ). IsSearchFor (searcher config k turn.who turn.moment) need (first_sight k) after ends.stretch) number_is
+                (search_wider (searcher_at config old.stripe turn) need (first_sight old.stripe.site.stripe) (stripe_sight old) new.sight after ends.stretch first_grows grows ends.search));
           };
         };
         cut = tt;
@@ -100,8 +111,11 @@ module _ {table : TableId} {config : Config} {number : ℕ} {old new : StripeSid
       noted = ends.unnoted ∙ asked;
       stretch = ends.stretch;
       account = entered_by (Err fault) ends who made;
-      search = subst (λ (w : Who). IsSearchUpTo config (visible_row old.stripe command turn.moment).need w turn.moment after ends.stretch) who
-          (up_to_grows config (visible_row old.stripe command turn.moment).need turn.who turn.moment new.sight after ends.stretch grows ends.cut_search);
+      search =
+          let need = (visible_row old.stripe command turn.moment).need in
+          subst (λ (w : Who). IsSearchUpTo (searcher config number w turn.moment) need (sight_of (searcher config number w turn.moment) before.sight old.stripe) after ends.stretch) who
+          (subst (λ (k : ℕ). IsSearchUpTo (searcher config k turn.who turn.moment) need (first_sight k) after ends.stretch) number_is
+          (up_to_wider (searcher_at config old.stripe turn) need (first_sight old.stripe.site.stripe) (stripe_sight old) new.sight after ends.stretch first_grows grows ends.cut_search));
       full = λ e. full_grows config old.stripe new.stripe new.sight after command turn.moment grows (ends.full (ap Err e));
     };
   }

@@ -1,6 +1,6 @@
 -- Steps on a class and a stripe that are told of each other before and behind them keep what both locks keep.
 use Rattle.std.proofs.Common.{◌≡◌, ◌≤◌, ◌⊎◌, ℕ, suc, List, [], ◌∷◌, ◌++◌, Result, Ok, Err, refl, sym, ap, ◌∙◌, subst, inl, inr, arith, length, map}
-use Rattle.std.specs.Prelude.{IfOk, IfErr, IsErrAnd, OnErr}
+use Rattle.std.specs.Prelude.{IfOk, OnErr}
 use Rattle.std.proofs.lemmas.List.{append-nil}
 use mathlib.Core.List.{IsPrefix}
 use Rattle.atomic_table.specs.Seated.{TableId}
@@ -66,11 +66,6 @@ pub settled_told : {T : Type 0} (made : T → Done) (c c_new : ClassView) (s s_n
     → OnErr result ((c_new ≡ with_room c c_new.room) × (s_new.history ≡ s.history)) → (told : List Event) → told ≡ stripe_told s.history → IsPrefix told (stripe_told s_new.history)
 settled_told made c c_new s s_new q (Ok x) settled err told is = stripe_told_more s.history s_new.history (done_stripe_events c q (made x)) told settled.stripe is
 settled_told made c c_new s s_new q (Err fault) settled err told is = stripe_told_more s.history s_new.history [] told (err.1 ∙ sym (append-nil s.history)) is
-
--- a fault that was handed on is the one that was answered
-pub handed_on : {T : Type 0} (P : Fault → Type 0) (fault : Fault) (r : Result T Fault) → IsErrAnd r (λ x. x ≡ fault) → P fault → IfErr r P
-handed_on P fault (Ok x) gives p = absurd gives
-handed_on P fault (Err e) gives p = subst P (sym gives) p
 
 -- a stripe with its tokens
 abbrev pub stripe_side : OwnerView → SeenView → Stripe → StripeSide

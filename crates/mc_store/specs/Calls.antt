@@ -32,6 +32,8 @@ use Rattle.mc_store.specs.{
   Earned.IsEarned,
   Searches.EntersOnce,
   Searches.IsSearchUpTo,
+  Searches.searcher,
+  Searches.sight_of,
   Full.IsFullFor,
   Full.LacksPlaces,
   Locked.class_lock,
@@ -77,14 +79,14 @@ IsUnbegun config before after fault = (after ≡ before) × (fault ≡ HistoryFu
 
 -- a command was answered with this reply at one point of its stripe's growing history, after all that the pass had seen and what
 -- other calls made; its caller's history gains two events, the call and the place of the answer, and its account only what the
--- command may make, with one search at most
+-- command may make, with one search at most, by states after all that the pass had seen and the stripe's own history
 pub record IsRepliedBy (config : Config) (number : ℕ) (before after : PassView) (command : Command) (moment : ℕ) (reply : Reply) : Type 0 where
   pub old : Stripe
   pub new : Stripe
   pub grew : IsSeenGrow config number before.sight after.sight old new
   pub first : HasNoneOf (next_who before) old.history
   pub replied : IsReplied config (next_who before) command moment old new after.sight (before.calls ++ asked_for command moment ∷ []) after.calls reply
-  pub account : EntersOnce config old command (next_who before) moment after.sight before.made after.made
+  pub account : EntersOnce (searcher config number (next_who before) moment) old command before after
 
 -- a command was broken off by this fault: after what the pass had seen and what other calls made, its stripe's history gains at
 -- most what leads up to it, its caller's history just the call, and its account only what the command may make; `HistoryFull`
@@ -98,7 +100,8 @@ pub record IsCutBy (config : Config) (number : ℕ) (before after : PassView) (c
   pub noted : after.calls ≡ before.calls ++ asked_for command moment ∷ []
   pub stretch : Stretch
   pub account : Enters (IsOfCommand config old command moment stretch) before.turn after.sight before.made after.made
-  pub search : IsSearchUpTo config (visible_row old command moment).need (next_who before) moment after.sight stretch
+  pub search : IsSearchUpTo (searcher config number (next_who before) moment) (visible_row old command moment).need
+      (sight_of (searcher config number (next_who before) moment) before.sight old) after.sight stretch
   pub full : fault ≡ HistoryFull → IsFullFor config old new after.sight command moment
 
 -- a class's history grew in a call, from that of `c` to this list: what the pass had seen is a beginning of the first, and now it

@@ -16,7 +16,7 @@ use Rattle.mc_stripe.specs.declared.wanting.Want.TheVariants as wants
 use Rattle.mc_pull.specs.declared.attempting.Tried.{Tried}
 use Rattle.mc_pull.specs.declared.attempting.Tried.TheVariants as tried
 use Rattle.mc_pull.specs.{Lone.AreMadeBy, Perform.call}
-use Rattle.mc_store.specs.{Accounts.Enters, Accounts.IsOfCommand, Accounts.Stretch, Searches.IsSearchFor, Searches.IsSearchUpTo}
+use Rattle.mc_store.specs.{Accounts.Enters, Accounts.IsOfCommand, Accounts.Stretch, Searches.IsSearchFor, Searches.IsSearchUpTo, Searches.searcher_at}
 use Rattle.mc_store.specs.{Calls.IsRepliedAs, Commands.IsCut, Commands.walker_in, Earned.HasGivenUp, Earned.IsEarnedAt, Earned.IsEarnedIn}
 use Rattle.mc_store.specs.{
   Full.HasSeenFull,
@@ -121,7 +121,7 @@ HasGivenUpAny config s turn v =
 
 -- how a command ends under the lock of its stripe: it was answered, or it was broken off with at most what leads up to it;
 -- `HistoryFull` means that a history lacks places for it; what the stripe saw only grew, and its caller's account gained only what
--- the command may make, with one search at most, which was whole if it was answered
+-- the command may make, with one search at most, by states after all that the stripe had and saw, which was whole if it was answered
 pub record Ends (config : Config) (own own_new : StripeSide) (caller caller_new : CallerView) (command : Command) (turn : Turn)
     (result : Result Replied Fault) : Type 0 where
   pub replied : IfOk result (IsRepliedAs config turn.who command turn.moment own.stripe own_new.stripe own_new.sight caller.calls caller_new.calls)
@@ -131,7 +131,9 @@ pub record Ends (config : Config) (own own_new : StripeSide) (caller caller_new 
   pub sees : Grows (stripe_sight own) (stripe_sight own_new)
   pub stretch : Stretch
   pub enters : Enters (IsOfCommand config own.stripe command turn.moment stretch) turn.who.turn (stripe_sight own_new) caller.made caller_new.made
-  pub search : OnOk result (IsSearchFor config (visible_row own.stripe command turn.moment).need turn.who turn.moment own_new.sight stretch)
-  pub cut_search : OnErr result (IsSearchUpTo config (visible_row own.stripe command turn.moment).need turn.who turn.moment own_new.sight stretch)
+  pub search : OnOk result (IsSearchFor (searcher_at config own.stripe turn) (visible_row own.stripe command turn.moment).need (stripe_sight own) own_new.sight
+      stretch)
+  pub cut_search : OnErr result (IsSearchUpTo (searcher_at config own.stripe turn) (visible_row own.stripe command turn.moment).need (stripe_sight own)
+      own_new.sight stretch)
   pub site : KeepsSite own.stripe own_new.stripe
   pub full : IsErrOf result HistoryFull → IsFullFor config own.stripe own_new.stripe own_new.sight command turn.moment

@@ -7,7 +7,7 @@ use Rattle.mc_item.specs.declared.class_event.ClassEvent.TheVariants as events
 use Rattle.mc_board.specs.{Accounts.maker_of, Histories.Grows}
 use Rattle.mc_board.specs.declared.rule.Sight.{Sight}
 use Rattle.mc_item.specs.declared.command.Command.{Command}
-use Rattle.mc_pull.specs.{Growth.LooksForChunk, Suited.MayNeedChunk, Suited.SuitsCommand}
+use Rattle.mc_pull.specs.{Growth.SuitsUpkeep, Suited.MayNeedChunk, Suited.SuitsCommand}
 use Rattle.mc_store.specs.Callers.{IsBegun, IsBegunAs, asked_for, call_events, limits_of, turns_of}
 
 -- no event of this history of a class is of this call
@@ -45,23 +45,6 @@ pub record WalksOwn (who : Who) (moment : ℕ) (before after : Sight) (history h
   pub sees : Grows before after
   pub gains : GainsOwn who moment history history_new
 
--- none of these events is a survey
-abbrev pub NoneSurveys : List ClassEvent → Type 0
-NoneSurveys [] = Unit {0}
-NoneSurveys (events.Surveyed e ∷ es) = ⊥
-NoneSurveys (events.Linked e ∷ es) = NoneSurveys es
-NoneSurveys (events.Unlinked e ∷ es) = NoneSurveys es
-NoneSurveys (events.Shifted e ∷ es) = NoneSurveys es
-NoneSurveys (events.Evicted e ∷ es) = NoneSurveys es
-NoneSurveys (events.Reclaimed e ∷ es) = NoneSurveys es
-NoneSurveys (events.Refused e ∷ es) = NoneSurveys es
-NoneSurveys (events.Limited e ∷ es) = NoneSurveys es
-
--- a search of this call walked, as in `WalksOwn`, and made no survey
-pub record SearchesOwn (who : Who) (moment : ℕ) (before after : Sight) (history history_new : List ClassEvent) : Type 0 where
-  pub walked : WalksOwn who moment before after history history_new
-  pub none : NoneSurveys walked.gains.events
-
 -- the event reclaims an entry
 abbrev pub IsReclaimed : ClassEvent → Type 0
 IsReclaimed (events.Reclaimed e) = Unit {0}
@@ -73,11 +56,11 @@ IsReclaimed (events.Surveyed e) = ⊥
 IsReclaimed (events.Refused e) = ⊥
 IsReclaimed (events.Limited e) = ⊥
 
--- a call may make this event of a class: a command in any class; juggling in its own class, without looking for a chunk; a crawl in
--- its own class, if the event reclaims an entry; an answer makes none; a call that sets a limit makes that alone (`IsLimitCalled`)
+-- a call may make this event of a class: a command in any class; juggling in its own class, as upkeep may; a crawl in its own class,
+-- if the event reclaims an entry; an answer makes none; a call that sets a limit makes that alone (`IsLimitCalled`)
 abbrev pub SuitsCall : ClassNo → ClassEvent → CallEvent → Type 0
 SuitsCall class event (Asked asked) = SuitsCommand asked.command event
-SuitsCall class event (Juggled worked) = (worked.class ≡ class) × (LooksForChunk event → ⊥)
+SuitsCall class event (Juggled worked) = (worked.class ≡ class) × SuitsUpkeep event
 SuitsCall class event (Crawled worked) = (worked.class ≡ class) × IsReclaimed event
 SuitsCall class event (Answered answered) = ⊥
 SuitsCall class event (Limits limits) = ⊥

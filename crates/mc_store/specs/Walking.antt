@@ -10,7 +10,7 @@ use Rattle.mc_pull.specs.declared.{context.Context.Context, looking.Judged.Judge
 use Rattle.mc_pull.specs.{Growth.GainsEvents, Looks.IsJudgedBy, Looks.events_if, Lone.StripeGrows, Settled.class_with, Walker.Walker}
 use Rattle.mc_pull.specs.Question.{HasKeyOf, IsClassOf, MayJudge, Question, question_of}
 use Rattle.mc_store.specs.{Accounts.IsOfStretch, Accounts.IsOfWalk, Accounts.StillCalls, Looked.IsKnown, Locked.HasBegun, Locked.class_lock}
-use Rattle.mc_store.specs.{Made.SearchesOwn, Made.WalksOwn}
+use Rattle.mc_store.specs.{Made.WalksOwn}
 use Rattle.mc_store.specs.{Passes.CallerView, Reached.IsSeenState, Serving.IsServed, Sides.ClassSide, Sides.class_told}
 
 -- what was seen of all locks, with this whole history of a class
@@ -48,6 +48,7 @@ pub record MayTry (board : TableId) (config : Config) (context : Context) (calle
   pub class : IsClassOf context.config.now c
   pub names : context.config.now ≡ config
   pub asks : context.turn.who ≡ who
+  pub at : context.turn.moment ≡ moment
   pub walks : MayWalkWith board config caller owner seen c who moment
 
 -- what a walk of this call leaves: the class's tokens serve it as it is now, the board has all of it, and it gained only events of the
@@ -59,13 +60,13 @@ pub record LeavesTokens (board : TableId) (config : Config) (who : Who) (moment 
   pub told : owner.history ≡ class_told c_new.history
   pub walked : WalksOwn who moment before seen.sight c.history c_new.history
 
--- what a search of this walker leaves: the class's tokens serve it as it is now, its stripe gained only the walker's events, and
--- so did the class, which gained no survey
+-- what a search of this walker leaves: the class's tokens serve it as it is now, and its stripe and the class gained only the
+-- walker's events
 pub record LeavesSearch (board : TableId) (config : Config) (w : Walker) (before : Sight) (c : ClassView) (s : Stripe) (owner : OwnerView) (seen : SeenView)
     (c_new : ClassView) (s_new : Stripe) : Type 0 where
   pub served : IsServed board config w.who owner seen c_new
   pub stripe : StripeGrows w s s_new
-  pub searched : SearchesOwn w.who w.moment before seen.sight c.history c_new.history
+  pub walked : WalksOwn w.who w.moment before seen.sight c.history c_new.history
 
 -- a look of this caller's call may be judged with a stripe under locks: the look is of the store, its class's tokens serve the class
 -- for the call, its question may be put, the stripe has seen that the call began, and the look isn't judged yet

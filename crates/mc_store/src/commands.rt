@@ -71,7 +71,8 @@ impl<N: Named> Store<N> {
     /// It waits for the lock of the key's stripe, and then for those of at most two classes, the lower number first. `moment` is
     /// the time in whole seconds, at most 2^62.
     /// The caller's account gains events of this turn alone, all of which the pass has then seen: of the key's stripe, of classes
-    /// where entries come and leave with their items, and if a new chunk is needed, those of a search in its class.
+    /// where entries come and leave with their items, and if a new chunk is needed, those of a search in its class. The search judges
+    /// an entry by its item as the item's stripe had it after all that the pass had seen.
     /// If the command's hit made its item ACTIVE, it offers the hit to the queue of the item's class, without any lock. If the queue
     /// is full, the hit is dropped.
     /// After a fault the stripe's history has gained at most what leads up to the command: the dead item's removal, and a search
@@ -106,6 +107,7 @@ impl<N: Named> Store<N> {
         let mut guard = self.lock_stripe(rt, number);
         let own = &mut *guard;
         let who = pass.take_turn_on(self, &asking, own)?;
+        own.learn(&self.board, &mut pass.seen);
         own.side.compare(&self.board, &mut pass.seen);
         let task = Task {
             alloc,

@@ -1,10 +1,10 @@
 //! Gates: how a walk under a class's lock reaches the stripes of its entries. A stripe's lock is tried, and never waited for.
-ghost use Rattle.std.specs.Prelude.{◌≡◌, ◌≢◌, ◌≤◌, ◌↔◌, ◌+◌, List, IfErr, IfOk, IfSome, MatchResult, false, length, true};
+ghost use Rattle.std.specs.Prelude.{◌≡◌, ◌≢◌, ◌≤◌, ◌↔◌, ◌+◌, IfErr, IfOk, IfSome, MatchResult, false, length, true};
 ghost use Rattle.std.specs.Sync.Mutex.{mutex_guard_value};
-ghost use Rattle.mc_pull.specs.{Broken.BreaksRoom, Growth.GainsEvents, Growth.GainsFor, Rounds.IsRoom, Rounds.rounds_by};
+ghost use Rattle.mc_pull.specs.{Growth.GainsFor, Rounds.rounds_by};
 ghost use Rattle.mc_pull.specs.Walker.{walker_by};
-ghost use Rattle.mc_pull.specs.declared.looking.Answer.{Answer};
-ghost use Rattle.mc_store.specs.{Calls.IsJuggleCut, Calls.IsJuggledWith, Earned.IsSearchInVain, Looked.IsOfCall, Reached.IsSeenState, Serving.MayFailSeen};
+ghost use Rattle.mc_store.specs.{Calls.IsJuggleCut, Calls.IsJuggledWith, Earned.IsSearchInVain, Reached.IsSeenState, Serving.MayFailSeen};
+ghost use Rattle.mc_store.specs.Searches.{IsSearchBroken, IsSearchedWith};
 ghost use Rattle.mc_store.specs.Walking.{LeavesSearch, LeavesTokens, MayTry, StillWalks, StillWalksFrom};
 
 use crate::caller::Caller;
@@ -158,8 +158,8 @@ pub(crate) struct Holding<'a, 'b, N: Named> {
 impl<'a, 'b, N: Named> Gate for Holding<'a, 'b, N> {
     ghost use Rattle.std.specs.Prelude.{◌≡◌, ◌≤◌, ◌∷◌, [], length};
     ghost use Rattle.mc_pull.specs.Lone.{StripeGrows};
-    ghost use Rattle.mc_store.specs.{Looked.HasLooked, Looked.IsOfCall, Locked.HasBegun, Made.SearchesOwn, Walking.StillWalksFrom};
-    ghost use Rattle.mc_store.specs.{Reached.IsSeenState, Serving.IsServed, Serving.MayFailSeen};
+    ghost use Rattle.mc_store.specs.{Looked.HasLooked, Looked.IsOfCall, Locked.HasBegun, Made.WalksOwn, Walking.StillWalksFrom};
+    ghost use Rattle.mc_store.specs.{Reached.GainsAnswers, Reached.IsSeenState, Serving.IsServed, Serving.MayFailSeen};
 
     ghost answers = { λ g. g.others.answers.now };
 
@@ -175,10 +175,11 @@ impl<'a, 'b, N: Named> Gate for Holding<'a, 'b, N> {
     ghost keeps = { λ w g begun h history. StripeGrows w g.own.now.stripe h.own.now.stripe
         × (IsOfCall w g.others.who g.others.moment → IsOfCall w h.others.who h.others.moment
         × HasLooked N.config.stripes w g.own.now.stripe g.others.answers.now h.others.answers.now begun history)
-        × SearchesOwn w.who w.moment g.others.seen.now.sight h.others.seen.now.sight begun history
+        × WalksOwn w.who w.moment g.others.seen.now.sight h.others.seen.now.sight begun history
         × (length g.others.owner.now.history ≤ length h.others.owner.now.history)
         × StillWalksFrom N.config w.class (length g.others.owner.now.history) w.who.turn g.others.seen.now.sight h.others.seen.now.sight begun
-        history g.others.caller.now h.others.caller.now };
+        history g.others.caller.now h.others.caller.now
+        × GainsAnswers N.config.stripes g.others.seen.now.sight h.others.seen.now.sight g.others.answers.now h.others.answers.now };
 
     fn visit(&mut self, stripe: StripeNo, look: &mut Look<'_>) -> Result<bool, Fault> {
         if !self.lends(stripe, look) {
@@ -215,9 +216,10 @@ impl<'a, 'b, N: Named> Holding<'a, 'b, N> {
         self.own.side().number() == stripe && self.others.is_own(look)
     }
 
-    // Makes room in a class by `make_room`, whose contract is for any gate. This one adds what is true of this gate: it holds the
-    // same references, its caller's account gains only events of the class and of stripes, its stripe and the class gain only
-    // events of this call and no survey, and a search that finds no chunk has tried.
+    // Makes room in a class by `make_room`, whose contract is for any gate. This one adds what is true of this gate. It holds the same
+    // references, reaches its own stripe whenever it is asked for it and finds the entry's item there, and judges by states that
+    // stripes had after all that its token had seen of them. Its caller's account gains only events of the class and of stripes, its
+    // stripe and the class gain only events of this call, and a search that finds no chunk has tried.
     pub(crate) fn make_room(
         &mut self,
         context: Context<'_>,
@@ -226,9 +228,11 @@ impl<'a, 'b, N: Named> Holding<'a, 'b, N> {
         requires gate { MayTry N.board.table N.config context self.old.others.caller.now self.old.others.owner.now self.old.others.seen.now class.old
             self.old.others.who self.old.others.moment }
         ensures room { MatchResult result
-            (λ found. (xs : List Answer) × IsRoom (rounds_by class.old context.entry) class.old.history xs class.new.history found)
-            (λ fault. (xs : List Answer) × BreaksRoom (rounds_by class.old context.entry) class.old.history xs class.new.history) }
-        ensures grows { GainsEvents class.old class.new }
+            (IsSearchedWith (rounds_by class.old context.entry) (record { 0 = self.old.own.now.stripe.site.stripe }) (IsSeenState N.config.stripes
+            self.old.others.seen.now.sight self.new.others.seen.now.sight) class.old.history class.new.history)
+            (λ fault. IsSearchBroken (rounds_by class.old context.entry) (record { 0 = self.old.own.now.stripe.site.stripe }) (IsSeenState
+            N.config.stripes self.old.others.seen.now.sight self.new.others.seen.now.sight) class.old.history class.new.history) }
+        ensures gains { GainsFor true class.old class.new }
         ensures fault { IfErr result (MayFailSeen N.config self.new.others.seen.now.sight class.new) }
         ensures references { (self.new.own.ghost_name ≡ self.old.own.ghost_name) × (self.new.others.caller.ghost_name ≡ self.old.others.caller.ghost_name)
             × (self.new.others.owner.ghost_name ≡ self.old.others.owner.ghost_name) × (self.new.others.seen.ghost_name ≡ self.old.others.seen.ghost_name) }
@@ -238,8 +242,8 @@ impl<'a, 'b, N: Named> Holding<'a, 'b, N> {
             self.new.others.caller.now }
         ensures left { LeavesSearch N.board.table N.config (walker_by class.old context.entry) self.old.others.seen.now.sight class.old
             self.old.own.now.stripe self.new.others.owner.now self.new.others.seen.now class.new self.new.own.now.stripe }
-        ensures tried { IfOk result (λ found. found ≡ false → IsOfCall (walker_by class.old context.entry) self.old.others.who self.old.others.moment →
-            IsSearchInVain N.config class.old self.old.own.now.stripe context.entry.turn.who context.entry.turn.moment class.new.history) }
+        ensures tried { IfOk result (λ found. found ≡ false → IsSearchInVain N.config class.old self.old.own.now.stripe context.entry.turn.who
+            context.entry.turn.moment class.new.history) }
     {
         a_search_in_vain_has_tried();
         make_room(context, class, self)

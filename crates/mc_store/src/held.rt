@@ -9,7 +9,7 @@ ghost use Rattle.mc_segment.specs.ClassState.{with_room};
 ghost use Rattle.mc_stripe.specs.StripeCalls.{KeepsSite};
 ghost use Rattle.mc_store.specs.Held.{Ends, HasGivenUpAny, IsCallOn, IsRefusedAt, IsStillFull, IsTriedOn, IsWalked, Suffice, WantsChunk, class_held};
 ghost use Rattle.mc_store.specs.{Callers.asked_for, Full.HasSeenFull, Locked.HasBegunAs, Locked.HasBegunSearch, Serving.IsShortFor, Trying.StillSearches};
-ghost use Rattle.mc_store.specs.{Accounts.stretch_of, Searches.IsCutSearch, Searches.IsSearchedIf, Trying.StillTries};
+ghost use Rattle.mc_store.specs.{Accounts.stretch_of, Searches.IsCutSearch, Searches.IsSearchedIf, Searches.searcher_at, Sides.stripe_sight, Trying.StillTries};
 
 use crate::caller::Caller;
 use crate::locked::{LockedClass, LockedStripe};
@@ -123,9 +123,9 @@ fn search<N: Named>(
     requires begun { HasBegunSearch N.config own.old.sight task.turn.who task.turn.moment × (task.turn.who.caller ≡ caller.old.number) }
     ensures tried { MatchResult result
         (λ done. (IsFull home.new.class.chunks home.new.class.history → HasGivenUpAny N.config own.old.stripe task.entry.turn home.new.class)
-        × IsSearchedIf N.config task.entry.turn.who task.entry.turn.moment own.new.sight home.old.class home.new.class)
-        (λ fault. IsCutSearch N.config home.old.class.number task.entry.turn.who task.entry.turn.moment own.new.sight (stretch_of home.old.class
-        home.new.class)) }
+        × IsSearchedIf (searcher_at N.config own.old.stripe task.entry.turn) (stripe_sight own.old) own.new.sight home.old.class home.new.class)
+        (λ fault. IsCutSearch (searcher_at N.config own.old.stripe task.entry.turn) home.old.class.number (stripe_sight own.old) own.new.sight (stretch_of
+        home.old.class home.new.class)) }
     ensures walked { IsWalked N.config task.entry.turn home.old.class.number own.old.stripe own.new.stripe }
     ensures same { (home.new.class.number ≡ home.old.class.number) × StillSearches N.config home.old.class.number (stretch_of home.old.class
         home.new.class) task.entry.turn own.old own.new caller.old caller.new }

@@ -26,9 +26,8 @@ pub(crate) fn judge<N: Named>(
     requires board { board.now ≡ N.board }
     requires look { MayJudgeUnder N.board.table N.config caller.old owner.old seen.old look.old stripe.old.sight }
     ensures same_reference { look.new.class.ghost_name ≡ look.old.class.ghost_name }
-    ensures still { StillWalksFrom N.config look.old.class.now.number (length owner.old.history) look.old.ask.who.turn seen.old.sight seen.new.sight
-        look.old.class.now.history look.new.class.now.history caller.old caller.new }
-    ensures owner { length owner.old.history ≤ length owner.new.history }
+    ensures still { (length owner.old.history ≤ length owner.new.history) × StillWalksFrom N.config look.old.class.now.number (length owner.old.history)
+        look.old.ask.who.turn seen.old.sight seen.new.sight look.old.class.now.history look.new.class.now.history caller.old caller.new }
     ensures noted { IfOk result (λ judged. look.new.done ≡ Some judged.done) }
     ensures judged { MatchResult result (IsJudgedUnder N.config stripe.old.stripe (question_of look.old.ask) look.old.class.now look.new.class.now)
         (λ fault. look.new.class.now ≡ with_room look.old.class.now look.new.class.now.room) }
@@ -47,6 +46,5 @@ pub(crate) fn judge<N: Named>(
     caller.catch_up_class(board, who, look.class, owner);
     owner.tell(board, &mut stripe.side.seen);
     stripe.side.tell(board, seen);
-    let judged = settled?;
-    Ok(judged)
+    settled
 }

@@ -2,7 +2,7 @@
 //! sound by what it has seen of the others.
 ghost use Rattle.std.specs.Prelude.{◌≡◌};
 ghost use Rattle.mc_board.specs.Histories.{Grows};
-ghost use Rattle.mc_store.specs.Locked.{IsLockedClass, IsLockedStripe};
+ghost use Rattle.mc_store.specs.{Locked.IsLockedClass, Locked.IsLockedStripe, Sides.stripe_sight};
 
 use crate::named::Named;
 use crate::owned_class::OwnedClass;
@@ -125,17 +125,19 @@ impl<N: Named> LockedClass<N> {
         side.seen.learn(board, seen);
     }
 
-    // The class learns all that a stripe has seen.
+    // The class learns a stripe's whole history, and all that the stripe has seen.
     pub(crate) fn learn_from(&mut self, board: &Board, stripe: &mut LockedStripe<N>)
         requires board { board.now.table ≡ N.board.table }
         ensures same { stripe.new ≡ stripe.old }
         ensures class { self.new ≡ record self.old { sight = self.new.sight } }
         ensures grows { Grows self.old.sight self.new.sight }
         ensures learnt { Grows stripe.old.sight self.new.sight }
+        ensures heard { Grows (stripe_sight stripe.old) self.new.sight }
     {
         let side = &mut self.side;
         let other = &mut stripe.side;
-        side.seen.learn(board, &mut other.seen);
+        side.learn(board, other);
+        side.hear(board, other);
     }
 
     // Unwraps the class, which is as its lock kept it.

@@ -1,11 +1,10 @@
 //! Walks under the locks of a store: making room in a class, juggling it, removing a dead item.
-ghost use Rattle.std.specs.Prelude.{◌≡◌, ◌≤◌, ◌+◌, ◌++◌, ◌∷◌, ◌⊎◌, [], List, Some, IfOk, IfErr, OnOk, OnErr, IsErrOf, MatchResult, false, length};
+ghost use Rattle.std.specs.Prelude.{◌≡◌, ◌≤◌, ◌+◌, ◌++◌, ◌∷◌, ◌⊎◌, [], Some, IfOk, IfErr, OnOk, OnErr, IsErrOf, MatchResult, false, length, true};
 ghost use Rattle.mc_item.specs.Command.{key_of};
 ghost use Rattle.mc_item.specs.declared.{fault.Fault.TheVariants.HistoryFull, stripe_event.Cause.TheVariants.Expired};
 ghost use Rattle.mc_stripe.specs.{Plan.dead_link, StripeCalls.KeepsSite, StripeState.cache_now};
 ghost use Rattle.mc_pull.specs.Growth as classes;
-ghost use Rattle.mc_pull.specs.{Broken.BreaksRoom, Lone.StripeGrows, Rounds.IsRoom, Rounds.rounds, Settled.lost_event, Walker.walker_of};
-ghost use Rattle.mc_pull.specs.declared.looking.Answer.{Answer};
+ghost use Rattle.mc_pull.specs.{Lone.StripeGrows, Rounds.rounds, Settled.lost_event, Walker.walker_of};
 ghost use Rattle.mc_store.specs.{
   Accounts.IsOfWalk,
   Accounts.StillCalls,
@@ -19,8 +18,9 @@ ghost use Rattle.mc_store.specs.{
   Serving.MayFailSeen,
 };
 ghost use Rattle.mc_store.specs.{Locked.HasBegunAs, Locked.HasBegunCommand, Locked.HasBegunSearch, Walking.LeavesSearch, Walking.MayWalkWith};
-ghost use Rattle.mc_store.specs.{Accounts.stretch_of, Searches.HasSeenOf, Trying.StillBuries, Trying.StillSearches, Walking.StillWalksFrom};
-ghost use Rattle.mc_store.specs.Walking.{class_sight};
+ghost use Rattle.mc_store.specs.Searches.{HasSeenOf, IsSearchBroken, IsSearchedWith};
+ghost use Rattle.mc_store.specs.{Accounts.stretch_of, Trying.StillBuries, Trying.StillSearches, Walking.StillWalksFrom};
+ghost use Rattle.mc_store.specs.{Sides.stripe_sight, Walking.class_sight};
 ghost use Rattle.mc_board.specs.Histories.{Grows};
 
 use crate::caller::Caller;
@@ -47,11 +47,11 @@ fn make_room_with<N: Named>(
 ) -> Result<bool, Fault>
     requires tokens { MayWalkWith N.board.table N.config caller.old owner.old seen.old class.old task.turn.who task.turn.moment }
     ensures room { MatchResult result
-        (λ found. (xs : List Answer) × IsRoom (rounds class.old task.entry.turn.who task.entry.turn.moment N.config) class.old.history xs class.new.history
-        found)
-        (λ fault. (xs : List Answer) × BreaksRoom (rounds class.old task.entry.turn.who task.entry.turn.moment N.config) class.old.history xs
-        class.new.history) }
-    ensures class { classes.GainsEvents class.old class.new }
+        (IsSearchedWith (rounds class.old task.entry.turn.who task.entry.turn.moment N.config) (record { 0 = own.old.stripe.site.stripe })
+        (IsSeenState N.config.stripes seen.old.sight seen.new.sight) class.old.history class.new.history)
+        (λ fault. IsSearchBroken (rounds class.old task.entry.turn.who task.entry.turn.moment N.config) (record { 0 = own.old.stripe.site.stripe })
+        (IsSeenState N.config.stripes seen.old.sight seen.new.sight) class.old.history class.new.history) }
+    ensures gains { classes.GainsFor true class.old class.new }
     ensures left { LeavesSearch N.board.table N.config (walker_of class.old task.entry.turn.who task.entry.turn.moment) seen.old.sight class.old
         own.old.stripe owner.new seen.new class.new own.new.stripe }
     ensures tried { IfOk result (λ found. found ≡ false → IsSearchInVain N.config class.old own.old.stripe task.entry.turn.who task.entry.turn.moment
@@ -91,10 +91,10 @@ pub(crate) fn make_room_under<N: Named>(
 ) -> Result<bool, Fault>
     requires begun { HasBegunSearch N.config own.old.sight task.turn.who task.turn.moment × (task.turn.who.caller ≡ caller.old.number) }
     ensures room { MatchResult result
-        (λ found. (xs : List Answer) × IsRoom (rounds class.old.class task.entry.turn.who task.entry.turn.moment N.config) class.old.class.history xs
-        class.new.class.history found)
-        (λ fault. (xs : List Answer) × BreaksRoom (rounds class.old.class task.entry.turn.who task.entry.turn.moment N.config) class.old.class.history xs
-        class.new.class.history) }
+        (IsSearchedWith (rounds class.old.class task.entry.turn.who task.entry.turn.moment N.config) (record { 0 = own.old.stripe.site.stripe })
+        (IsSeenState N.config.stripes (stripe_sight own.old) own.new.sight) class.old.class.history class.new.class.history)
+        (λ fault. IsSearchBroken (rounds class.old.class task.entry.turn.who task.entry.turn.moment N.config) (record { 0 = own.old.stripe.site.stripe })
+        (IsSeenState N.config.stripes (stripe_sight own.old) own.new.sight) class.old.class.history class.new.class.history) }
     ensures class { classes.GainsEvents class.old.class class.new.class }
     ensures leaves { StripeGrows (walker_of class.old.class task.entry.turn.who task.entry.turn.moment) own.old.stripe own.new.stripe
         × StillSearches N.config class.old.class.number (stretch_of class.old.class class.new.class) task.entry.turn own.old own.new caller.old

@@ -1,4 +1,4 @@
-//! A plain memcached of one stripe, after protocol.txt, to compare with the real one. It is a list of items that answers
+//! A plain memcached of one stripe, after protocol.txt, to compare this project's stripes with. It is a list of items that answers
 //! commands, and says whether an item may be lost.
 use crate::numerals::{counted, number_in, numeral};
 use mc_item::{Cause, Command, NoMemory, Reply, Value, Verb};

@@ -1,4 +1,4 @@
-//! A plain slab class, after new_lru.txt, to compare with the real one.
+//! A plain slab class, after new_lru.txt, to compare this project's classes with.
 //! It takes one event after another, and says what is wrong with it.
 use mc_history::History;
 use mc_item::{ClassEvent, Entry, Evicted, Limited, Linked, Seg, Shifted, Surveyed, Who, Why};
@@ -175,8 +175,10 @@ impl PlainClass {
         passed.len() <= MOST_PASSED && self.is_at(seg, passed.len(), number)
     }
 
-    // Checks that a new entry has a free chunk and the next number.
+    // Checks that a new entry is of HOT or TEMP, and has a free chunk and the next number.
     fn check_new(&self, linked: &Linked) -> Checked {
+        let begins = linked.seg == Seg::Hot || linked.seg == Seg::Temp;
+        holds(begins, "a new entry elsewhere")?;
         holds(!self.is_full(), "a new entry without a chunk")?;
         holds(linked.number == self.next, "not the next number")
     }

@@ -28,7 +28,7 @@ mod two_sinks;
 mod upkeep;
 mod words;
 
-use mc_driver::run_words;
+use mc_driver::{Host, run_words};
 use std::alloc::Global;
 use std::hash::RandomState;
 use std::process::Abort;
@@ -72,9 +72,10 @@ fn lines<R: Abort>(rt: &R, alloc: Global, text: &str) -> Vec<u8> {
     bytes
 }
 
-// A seed of a store's hash.
-fn seed_of<R: Abort + RandomSource>(rt: &R) -> RandomState {
-    RandomState::new(rt).expect(rt, "random numbers")
+// A host with a new seed.
+fn host_of<R: Abort + RandomSource>(rt: &R, alloc: Global) -> Host<'_, R> {
+    let seed = RandomState::new(rt).expect(rt, "random numbers");
+    Host { rt, alloc, seed }
 }
 
 // What the program answered, printed and said on standard error.
@@ -95,11 +96,8 @@ fn run_program<R: Abort + RandomSource + Threads + Wait + Sync>(
     let mut reader = input;
     let mut output = Vec::new(alloc);
     let mut errors = Vec::new(alloc);
-    let seed = seed_of(rt);
     let status = run_words(
-        rt,
-        alloc,
-        seed,
+        host_of(rt, alloc),
         words,
         &mut reader,
         &mut output,

@@ -1,7 +1,7 @@
 //! The program `mcseg`: memcached's storage commands from standard input, and their replies on standard output.
 #![tactic(auto)]
 
-use mc_driver::run_words;
+use mc_driver::{Host, run_words};
 use std::fmt::Display;
 use std::hash::RandomState;
 use std::io::ErrorKind;
@@ -43,10 +43,13 @@ fn main(rt: HostRuntime) -> ExitCode {
         Ok(seed) => seed,
         Err(error) => return ended(&rt, format_args!("no random numbers: {error}"), 3),
     };
-    let status = run_words(
-        &rt,
+    let host = Host {
+        rt: &rt,
         alloc,
         seed,
+    };
+    let status = run_words(
+        host,
         texts.as_slice(),
         &mut rt.stdin(),
         &mut rt.stdout(),

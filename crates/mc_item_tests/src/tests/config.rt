@@ -42,7 +42,7 @@ fn checked(rt: &impl Abort, alloc: Global) -> Config {
 }
 
 #[test]
-fn the_usual_configuration_has_one_stripe(rt: HostRuntime) {
+fn the_usual_configuration_has_the_values_of_the_guide(rt: HostRuntime) {
     let alloc = rt.alloc();
     let config = checked(&rt, alloc);
     let limits = text_of_limits(&rt, alloc, &config);

@@ -50,7 +50,7 @@ fn check_commands(rt: &impl Abort, alloc: Global, rows: &[(Asked, &str)]) {
 }
 
 #[test]
-fn copies_of_commands(rt: HostRuntime) {
+fn a_copy_of_a_command_is_equal(rt: HostRuntime) {
     check_commands(&rt, rt.alloc(), COMMANDS.as_slice());
 }
 

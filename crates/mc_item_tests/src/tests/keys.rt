@@ -28,7 +28,7 @@ fn check_keys(rt: &impl Abort, alloc: Global, rows: &[(&[u8], Option<KeyFault>)]
 }
 
 #[test]
-fn limits_of_a_key(rt: HostRuntime) {
+fn a_key_has_1_to_250_bytes_and_none_that_ends_a_token(rt: HostRuntime) {
     check_keys(&rt, rt.alloc(), KEYS.as_slice());
 }
 
@@ -55,13 +55,33 @@ fn copy_of(rt: &impl Abort, alloc: Global, key: &Key) -> Key {
 }
 
 #[test]
-fn equal_keys(rt: HostRuntime) {
+fn keys_are_equal_by_their_bytes(rt: HostRuntime) {
     let alloc = rt.alloc();
     let first = key(&rt, alloc, b"abc");
     same_bytes(&rt, first.bytes(), b"abc".as_slice(), 0);
     let copy = copy_of(&rt, alloc, &first);
     same_answer(&rt, first == copy, true, 0);
     check_equal(&rt, alloc, &first, EQUAL.as_slice());
+}
+
+// Against 31 bytes `x`: the least number of bytes that don't fit within a key itself.
+static LONG_EQUAL: [(&[u8], bool); 5] = [
+    (b"xxxxxxxxxxxxxxxxxxxxxxxxxxxxxxx", true),
+    (b"xxxxxxxxxxxxxxxxxxxxxxxxxxxxxx", false),
+    (b"xxxxxxxxxxxxxxxxxxxxxxxxxxxxxxxx", false),
+    (b"xxxxxxxxxxxxxxxxxxxxxxxxxxxxxxy", false),
+    (b"yxxxxxxxxxxxxxxxxxxxxxxxxxxxxxx", false),
+];
+
+#[test]
+fn keys_of_more_than_30_bytes_are_equal_byte_by_byte(rt: HostRuntime) {
+    let alloc = rt.alloc();
+    let first = key(&rt, alloc, &[b'x'; 31]);
+    same_bytes(&rt, first.bytes(), &[b'x'; 31], 0);
+    let copy = copy_of(&rt, alloc, &first);
+    same_bytes(&rt, copy.bytes(), &[b'x'; 31], 1);
+    same_answer(&rt, first == copy, true, 1);
+    check_equal(&rt, alloc, &first, LONG_EQUAL.as_slice());
 }
 
 // A key, and its stripe of 1, of 4 and of 64. The hashes of `a`, `b`, `c` are those of the authors' own list; the last one's is
@@ -95,6 +115,6 @@ fn check_all_stripes(rt: &impl Abort, alloc: Global, rows: &[(&[u8], &str)]) {
 }
 
 #[test]
-fn stripes_of_keys(rt: HostRuntime) {
+fn a_key_has_the_stripe_of_its_hash(rt: HostRuntime) {
     check_all_stripes(&rt, rt.alloc(), STRIPES.as_slice());
 }

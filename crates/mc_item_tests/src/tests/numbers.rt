@@ -1,8 +1,8 @@
 //! Sizes, moments, numerals, marks and counts.
-use crate::tests::{NO_MARKS, item, same};
+use crate::tests::{NO_MARKS, item, same, site};
 use mc_item::{
-    ClassNo, ClassSizes, Config, Expiry, Histogram, Item, Marks, Passed, class_of, cost, expiry_of,
-    number_of, numeral_of,
+    ClassNo, ClassSizes, Config, Expiry, Histogram, Item, Marks, Passed, Step, class_of, cost,
+    digits_len, expiry_of, least_class, number_of, numeral_of,
 };
 use std::alloc::Global;
 use std::process::Abort;
@@ -29,6 +29,23 @@ fn same_class(rt: &impl Abort, seen: Option<ClassNo>, wanted: Option<ClassNo>, c
 fn a_cost_goes_to_the_smallest_class_that_holds_it(rt: HostRuntime) {
     for (cost, wanted) in CLASSES.as_slice() {
         same_class(&rt, usual_class(&rt, rt.alloc(), *cost), *wanted, *cost);
+    }
+}
+
+// The classes have 96 and 120 bytes.
+static CLASSES_OF_SIZES: [(u64, Option<ClassNo>); 5] = [
+    (0, Some(ClassNo(1))),
+    (96, Some(ClassNo(1))),
+    (97, Some(ClassNo(2))),
+    (120, Some(ClassNo(2))),
+    (121, None),
+];
+
+#[test]
+fn sizes_and_a_site_give_a_cost_the_same_class(rt: HostRuntime) {
+    for (cost, wanted) in CLASSES_OF_SIZES.as_slice() {
+        same_class(&rt, least_class(&[96, 120], *cost), *wanted, *cost);
+        same_class(&rt, site().class_of(*cost), *wanted, *cost);
     }
 }
 
@@ -133,6 +150,46 @@ fn short_lists_give_back_their_numbers(rt: HostRuntime) {
     same_list(&rt, ClassSizes::of(&[96, 120]).as_slice(), &[96, 120]);
 }
 
+static DIGITS: [(u64, usize); 8] = [
+    (0, 1),
+    (9, 1),
+    (10, 2),
+    (99, 2),
+    (100, 3),
+    (1_000, 4),
+    (9_999_999_999_999_999_999, 19),
+    (18_446_744_073_709_551_615, 20),
+];
+
+#[test]
+fn a_number_has_its_decimal_digits(rt: HostRuntime) {
+    for (number, wanted) in DIGITS.as_slice() {
+        assert_eq!(rt; digits_len(*number), *wanted, "{number}");
+    }
+}
+
+// A step, a number, and the number after the step.
+static STEPS: [(Step, u64, u64); 5] = [
+    (Step::Up(1), 9, 10),
+    (Step::Up(1), 18_446_744_073_709_551_615, 0),
+    (Step::Up(18_446_744_073_709_551_615), 2, 1),
+    (Step::Down(1), 10, 9),
+    (Step::Down(5), 3, 0),
+];
+
+#[test]
+fn a_step_up_wraps_and_a_step_down_stops_at_0(rt: HostRuntime) {
+    for (step, number, wanted) in STEPS.as_slice() {
+        assert_eq!(rt; step.taken(*number), *wanted, "{step:?} of {number}");
+    }
+}
+
+#[test]
+fn the_versions_of_stripe_1_of_4_are_2_6_and_so_on(rt: HostRuntime) {
+    let seen = [site().cas_of(0), site().cas_of(1), site().cas_of(5)];
+    same_list(&rt, seen.as_slice(), &[2, 6, 22]);
+}
+
 fn text_of_minutes(rt: &impl Abort, alloc: Global, counts: &Histogram) -> String {
     let (first, second, last) = (counts.minutes[0], counts.minutes[1], counts.minutes[59]);
     format!(in alloc; "{first} {second} {last}").expect(rt, "memory")
@@ -189,6 +246,6 @@ fn check_numbers(rt: &impl Abort, rows: &[(&[u8], Option<u64>)]) {
 }
 
 #[test]
-fn texts_that_are_numbers(rt: HostRuntime) {
+fn a_text_of_digits_below_2_64_is_a_number(rt: HostRuntime) {
     check_numbers(&rt, NUMBERS.as_slice());
 }

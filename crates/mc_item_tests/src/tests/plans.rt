@@ -379,6 +379,6 @@ fn check_all_refused(rt: &impl Abort, alloc: Global, rows: &[&[&str]]) {
 }
 
 #[test]
-fn words_that_no_option_takes_are_the_readers(rt: HostRuntime) {
+fn words_that_no_option_takes_are_refused_by_clap(rt: HostRuntime) {
     check_all_refused(&rt, rt.alloc(), REFUSED.as_slice());
 }

@@ -1,9 +1,11 @@
-//! Parts of the table of commands that can be called alone, each after five versions of stripe 1 of 4: the answer to a count, a new version in an item's place,
-//! and a count in place.
+//! Parts of the table of commands that can be called alone, each after five versions of stripe 1 of 4: what a count needs and its
+//! answer, a new version in an item's place, and a count in place.
 use crate::tests::{
     AT, GROWN, NO_MARKS, REFUSED, item, key, same, same_bytes, site, text_of, value,
 };
-use mc_item::{ClassNo, Content, Expiry, Item, Key, Link, Making, Marks, Offer, Room, Step, Value};
+use mc_item::{
+    ClassNo, Content, Expiry, Item, Key, Link, Making, Marks, Need, Offer, Room, Step, Value,
+};
 use std::alloc::Global;
 use std::process::Abort;
 
@@ -16,41 +18,50 @@ fn content(value: &Value) -> Content<'_> {
     }
 }
 
-// A step, the value of the item that is there, the room, and the reply and change.
-type CountRow = (Step, &'static [u8], Room, &'static str);
+// A step, the value of the item if there is one, the room, and the reply and change.
+type CountRow = (Step, Option<&'static [u8]>, Room, &'static str);
 
-static COUNTS: [CountRow; 4] = [
-    (Step::Down(1), b"x", Room::Keep, "NonNumeric; Stays"),
+static COUNTS: [CountRow; 5] = [
+    (Step::Up(1), None, Room::Keep, "NotFound; Stays"),
+    (Step::Down(1), Some(b"x"), Room::Keep, "NonNumeric; Stays"),
     (
         Step::Down(1),
-        b"10",
+        Some(b"10"),
         Room::Keep,
         "Number(9); Counted(Value { bytes: [57, 32] }, 22)",
     ),
-    (Step::Up(1), b"9", AT, GROWN),
-    (Step::Up(1), b"9", REFUSED, "NoSpace; Stays"),
+    (Step::Up(1), Some(b"9"), AT, GROWN),
+    (Step::Up(1), Some(b"9"), REFUSED, "NoSpace; Stays"),
 ];
+
+// The item with this value, if there is a value.
+fn found_of(rt: &impl Abort, alloc: Global, value: Option<&'static [u8]>) -> Option<Item> {
+    match value {
+        None => None,
+        Some(bytes) => Some(item(rt, alloc, bytes, NO_MARKS)),
+    }
+}
 
 fn text_of_count(
     rt: &impl Abort,
     alloc: Global,
     key: &Key,
-    found: &Item,
+    found: Option<&Item>,
     step: Step,
     room: Room,
 ) -> String {
     let making = Making { alloc, versions: 5 };
     let offer = Offer { class: None, room };
     let answer = site()
-        .count_answer(making, key, step, Some(found), offer)
+        .count_answer(making, key, step, found, offer)
         .expect(rt, "memory");
     text_of(rt, alloc, &answer)
 }
 
 fn check_count(rt: &impl Abort, alloc: Global, row: &CountRow, place: usize) {
     let key = key(rt, alloc, b"k");
-    let found = item(rt, alloc, row.1, NO_MARKS);
-    let answer = text_of_count(rt, alloc, &key, &found, row.0, row.2);
+    let found = found_of(rt, alloc, row.1);
+    let answer = text_of_count(rt, alloc, &key, found.as_ref(), row.0, row.2);
     same(rt, answer.as_str(), row.3, place);
 }
 
@@ -63,6 +74,38 @@ fn check_counts(rt: &impl Abort, alloc: Global, rows: &[CountRow]) {
 #[test]
 fn count_answers_by_step_and_value(rt: HostRuntime) {
     check_counts(&rt, rt.alloc(), COUNTS.as_slice());
+}
+
+// A step, the value of the item if there is one, and what the count needs.
+type NeedRow = (Step, Option<&'static [u8]>, Need);
+
+static NEEDS: [NeedRow; 4] = [
+    (Step::Up(1), None, Need::Nothing),
+    (Step::Up(1), Some(b"x"), Need::Nothing),
+    (Step::Down(1), Some(b"10"), Need::Same),
+    (Step::Up(1), Some(b"9"), Need::Fresh(ClassNo(1))),
+];
+
+fn same_need(rt: &impl Abort, seen: Need, wanted: Need, place: usize) {
+    assert_eq!(rt; seen, wanted, "at row {place}");
+}
+
+fn check_need(rt: &impl Abort, alloc: Global, row: &NeedRow, place: usize) {
+    let key = key(rt, alloc, b"k");
+    let found = found_of(rt, alloc, row.1);
+    let need = site().count_need(&key, row.0, found.as_ref());
+    same_need(rt, need, row.2, place);
+}
+
+fn check_needs(rt: &impl Abort, alloc: Global, rows: &[NeedRow]) {
+    for (place, row) in rows.iter().enumerate() {
+        check_need(rt, alloc, row, place);
+    }
+}
+
+#[test]
+fn a_count_needs_a_chunk_if_the_number_is_longer(rt: HostRuntime) {
+    check_needs(&rt, rt.alloc(), NEEDS.as_slice());
 }
 
 const BOTH: Marks = Marks {

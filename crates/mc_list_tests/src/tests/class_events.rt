@@ -36,7 +36,7 @@ fn call_of(turn: u64, at: u64) -> Call {
     }
 }
 
-// A new entry in a turn of which the moment is as many seconds behind 1000.
+// A new entry in a turn, as many seconds after the moment 1000.
 fn links<R: Abort>(rt: &R, alloc: Global, class: &mut ClassState, turn: u64, text: &[u8], cost: u64)
     requires { turn ≤ 2 ^ 20 }
     ensures { class.new.rule ≡ class.old.rule }

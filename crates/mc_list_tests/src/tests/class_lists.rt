@@ -4,7 +4,8 @@ ghost use Rattle.std.specs.Prelude.{◌≡◌, IfOk};
 use super::rows::Ask::{Do, Hit, KeepActive, Reserve, See, SetChunks, Survey, Surveys};
 use super::rows::Deed::{Evict, Force, Link, Reclaim, Refuse, Unlink};
 use super::rows::Sight::{
-    Bytes, Chunks, Count, Events, Figures, IsFull, NextNumber, Number, Segment, Tail, TailKey, Time,
+    Bytes, Chunks, Count, Events, Figures, HasPlaces, IsFull, NextNumber, Number, Segment, Tail,
+    TailKey, Time,
 };
 use super::rows::{Row, Start, play};
 use mc_item::Expiry::{At, Never};
@@ -50,20 +51,24 @@ const fn letting_go(chunks: u64) -> Start {
     }
 }
 
-// A worked example: two entries, a forced move, an eviction, a third entry and two surveys.
-static OLDEST: [Row; 19] = [
+// A worked example in room that was made for its eight events: two entries, a forced move, an eviction, a third entry and two
+// surveys.
+static OLDEST: [Row; 22] = [
+    (Reserve(8), "Ok(())"),
     (See(Figures), "[0, 0, 0, 0, 0, 0, 0, 0]"),
     (Do(Link("a", 66, 1000, Never)), "0"),
     (Do(Link("b", 66, 1000, Never)), "1"),
     (See(Bytes(Hot)), "132"),
     (See(Count), "2"),
     (See(Figures), "[132, 0, 0, 0, 2, 0, 0, 0]"),
+    (See(IsFull), "full"),
     (Do(Force(1000)), "0"),
     (See(Bytes(Hot)), "66"),
     (See(Bytes(Cold)), "66"),
     (See(Figures), "[66, 0, 66, 0, 1, 0, 1, 0]"),
     (Survey(1003), "[3, 132, 3]"),
     (Do(Evict), "0"),
+    (See(IsFull), "not full"),
     (See(Count), "1"),
     (See(Figures), "[66, 0, 0, 0, 1, 0, 0, 0]"),
     (Do(Link("c", 66, 1004, Never)), "2"),
@@ -185,10 +190,14 @@ fn a_class_that_lets_its_events_go_answers_as_one_that_keeps_them(
     play(&rt, rt.alloc(), letting_go(3), LIMITS.as_slice())
 }
 
-static FULL: [Row; 7] = [
+static FULL: [Row; 11] = [
+    (See(HasPlaces(17)), "false"),
+    (See(HasPlaces(16)), "true"),
     (Reserve(17), "Err(HistoryFull)"),
     (Reserve(16), "Ok(())"),
     (Surveys(16), "16"),
+    (See(HasPlaces(1)), "false"),
+    (See(HasPlaces(0)), "true"),
     (Survey(1000), "Err(HistoryFull)"),
     (SetChunks(2), "Err(HistoryFull)"),
     (See(Chunks), "1"),

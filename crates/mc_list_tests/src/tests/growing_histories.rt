@@ -162,7 +162,7 @@ fn asserts_many<R: Abort>(rt: &R, owners: usize, wanted: usize)
 }
 
 #[test]
-fn three_appended_events_are_counted(rt: HostRuntime) {
+fn three_events_that_an_owner_caught_up_with_are_counted(rt: HostRuntime) {
     let (board, mut owners, mut root) = Board::open(rt.alloc(), with_caller(2, 0)).expect(
         &rt, "a board",
     );

@@ -75,7 +75,7 @@ fn a_history_begins_with_no_event(rt: HostRuntime) {
     asserts_at(&rt, &history, 0, None);
 }
 
-// Room for 5,000 events is two pieces, so 3,192 more need no memory, and the event behind them needs a third.
+// Room for 5,000 events after 4,095 takes two more pieces of 4,096. All 5,000 then go in without another reservation.
 #[test]
 fn room_for_many_is_made_at_once(rt: HostRuntime) {
     let mut history = counted(&rt, History::new(rt.alloc()), 4_095);
@@ -84,8 +84,7 @@ fn room_for_many_is_made_at_once(rt: HostRuntime) {
         push(&mut history, number);
     }
     asserts_len(&rt, &history, 9_095);
-    asserts_at(&rt, &history, 4_096, Some(4_096));
-    asserts_at(&rt, &history, 9_094, Some(9_094));
+    asserts_order(&rt, &history, 9_095);
 }
 
 // Room for so many events is refused.

@@ -39,6 +39,8 @@ pub(super) enum Sight {
     Chunks,
     Number,
     IsFull,
+    // Whether the history has places for so many events.
+    HasPlaces(usize),
     // The segment of an entry.
     Segment(u64),
     // The number of the j-th entry from a list's tail.
@@ -115,6 +117,10 @@ fn room_text<R: Abort>(rt: &R, alloc: Global, made: Result<(), Fault>) -> String
 
 fn full_text<R: Abort>(rt: &R, alloc: Global, full: bool) -> String {
     text(rt, alloc, if full { "full" } else { "not full" })
+}
+
+fn places_text<R: Abort>(rt: &R, alloc: Global, places: bool) -> String {
+    format!(in alloc; "{places}").expect(rt, "a text")
 }
 
 fn segment_text<R: Abort>(rt: &R, alloc: Global, segment: Option<Seg>) -> String {
@@ -207,6 +213,7 @@ fn entry_of(class: &ClassState, sight: Sight) -> Option<u64> {
 fn look<R: Abort>(rt: &R, alloc: Global, class: &ClassState, sight: Sight) -> String {
     match sight {
         Sight::IsFull => full_text(rt, alloc, class.is_full()),
+        Sight::HasPlaces(n) => places_text(rt, alloc, class.has_places(n)),
         Sight::Segment(number) => segment_text(rt, alloc, class.segment_of(number)),
         Sight::TailKey(seg, j) => text_of_tail_key(rt, alloc, class, seg, j),
         Sight::Passed(j) => text_of_passed(rt, alloc, class, j),

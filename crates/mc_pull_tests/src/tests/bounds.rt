@@ -86,7 +86,8 @@ fn an_expiry_at_temps_life_is_temps(rt: HostRuntime) -> Result<(), Fail> {
     play(&rt, rt.alloc(), config, &[], AT_TEMPS_LIFE.as_slice())
 }
 
-// Both entries are 2^62 seconds old, and twice the cold age's hundredfold is past 64 bits: HOT's isn't older than that.
+// Both entries are 2^62 seconds old. The cold age times the factor 10,000 is past 64 bits; a hundredfold of it is HOT's greatest
+// age, so HOT's entry stays.
 static PAST_64_BITS: [Row; 5] = [
     (Store(b'a', 0, 0), "stored"),
     (Walk(Juggle(0)), "0 reclaimed, 1 moved"),
@@ -96,7 +97,7 @@ static PAST_64_BITS: [Row; 5] = [
 ];
 
 #[test]
-fn shares_past_64_bits(rt: HostRuntime) -> Result<(), Fail> {
+fn a_share_past_64_bits_does_not_wrap(rt: HostRuntime) -> Result<(), Fail> {
     let mut config = hot_of(rt.alloc(), 50)?;
     config.hot_factor = 10_000;
     play(&rt, rt.alloc(), config, &[], PAST_64_BITS.as_slice())

@@ -43,7 +43,7 @@ static FOUR_LISTS: [Row; 12] = [
 ];
 
 #[test]
-fn hot_warm_cold_and_temp_from_their_tails(rt: HostRuntime) -> Result<(), Fail> {
+fn a_snapshot_has_hot_warm_cold_and_temp_from_their_tails(rt: HostRuntime) -> Result<(), Fail> {
     let mut config = one_class(rt.alloc(), 10)?;
     config.temp = true;
     config.temp_ttl = 61;
@@ -86,7 +86,7 @@ static KINDS: [Row; 17] = [
 ];
 
 #[test]
-fn kinds_by_the_seconds_left(rt: HostRuntime) -> Result<(), Fail> {
+fn a_crawl_counts_items_by_minutes_left(rt: HostRuntime) -> Result<(), Fail> {
     let alloc = rt.alloc();
     play(&rt, alloc, one_class(alloc, 10)?, &[], KINDS.as_slice())
 }

@@ -64,7 +64,7 @@ static DEAD_OR_ALIVE: [Row; 4] = [
 ];
 
 #[test]
-fn an_item_is_dead_or_alive(rt: HostRuntime) -> Result<(), Fail> {
+fn a_dead_item_is_reclaimed_and_a_living_one_stays(rt: HostRuntime) -> Result<(), Fail> {
     let alloc = rt.alloc();
     play(
         &rt,

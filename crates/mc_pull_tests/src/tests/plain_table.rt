@@ -11,7 +11,7 @@ pub enum Way {
     Force,
 }
 
-/// The rows of the table, and an entry whose item is gone. A move to COLD by a survey is got apart by its cause, and
+/// The rows of the table, and an entry whose item is gone. A move to COLD by a survey is told apart by its cause, and
 /// what a survey leaves there by whether its bytes are just the limit, or its age is just the greatest.
 #[derive(Clone, Copy, Debug, PartialEq, Eq)]
 pub enum Row {

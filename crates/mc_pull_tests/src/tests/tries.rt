@@ -4,9 +4,9 @@ use super::asking::Asked::{
     Set, SetHuge, SetRefused, SetUntil, Touch,
 };
 use super::asking::{DOES, ITEM, NONE, Row, play};
-use super::seeing::Seen::{Item, Lengths, List};
+use super::seeing::Seen::{Item, Lengths, List, Time};
 use super::trying::Lend::{Both, Home, Nothing, Other};
-use mc_item::Seg::{Cold, Hot};
+use mc_item::Seg::{Cold, Hot, Warm};
 use std::test::Fail;
 
 // So many places as no test takes.
@@ -102,7 +102,7 @@ const FIRST_WOKEN: &str = "a value, 0 of class 1 woken";
 const SECOND_WOKEN: &str = "a value, 1 of class 1 woken";
 
 // One item alone is more than the share of HOT, so it goes to COLD; the one that comes then stays in HOT.
-static HITS: [Row; 10] = [
+static HITS: [Row; 13] = [
     (Set(b'a', 1), Home, "Stored", ["[links 0]", "", "[does]"]),
     (
         Juggle,
@@ -114,9 +114,12 @@ static HITS: [Row; 10] = [
             "",
         ],
     ),
+    (At(1001), Nothing, "", NONE),
     (Get(b'a'), Nothing, "a value", DOES),
     (Get(b'a'), Nothing, FIRST_WOKEN, DOES),
     (See(List(Cold)), Nothing, "[0]", NONE),
+    (See(List(Warm)), Nothing, "[]", NONE),
+    (See(Time(0)), Nothing, "1000", NONE),
     (Get(b'a'), Other, "a value", DOES),
     (Set(b'b', 1), Home, "Stored", ["[links 1]", "", "[does]"]),
     (Get(b'b'), Nothing, "a value", DOES),
@@ -188,7 +191,7 @@ fn a_set_over_an_item_wants_two_places_of_its_class(rt: HostRuntime) -> Result<(
 }
 
 // The stripe has one place left after 15 commands, and then none.
-static CROWDED_STRIPE: [Row; 19] = [
+static CROWDED_STRIPE: [Row; 22] = [
     (Set(b'a', 1), Home, "Stored", ["[links 0]", "", "[does]"]),
     (
         Juggle,
@@ -217,6 +220,9 @@ static CROWDED_STRIPE: [Row; 19] = [
     (Get(b'a'), Nothing, FIRST_WOKEN, DOES),
     (Get(b'a'), Other, "HistoryFull", NONE),
     (Get(b'z'), Nothing, "HistoryFull", NONE),
+    (Delete(b'a'), Other, "HistoryFull", NONE),
+    (See(Lengths), Nothing, "3 16", NONE),
+    (See(List(Cold)), Nothing, "[0]", NONE),
 ];
 
 #[test]

@@ -1,4 +1,4 @@
-//! Walks and rounds along lists of six items, by the answers that a gate is got to give.
+//! Walks and rounds along lists of six items, by the answers that a gate is told to give.
 use super::by_list::Walked::{Evict, Force, Juggle, Room};
 use super::by_list::{evict, pull};
 use super::rows::Ask::{Limit, See, Store, Walk};
@@ -45,7 +45,7 @@ static FIRST_THAT_IS_HAD: [Row; 4] = [
 ];
 
 #[test]
-fn the_first_that_is_had_is_evicted(rt: HostRuntime) -> Result<(), Fail> {
+fn the_first_entry_whose_stripe_is_lent_is_evicted(rt: HostRuntime) -> Result<(), Fail> {
     let alloc = rt.alloc();
     play(
         &rt,
@@ -202,8 +202,8 @@ fn pattern(digits: u32) -> [bool; 5] {
     [digit(0), digit(1), digit(2), digit(3), digit(4)]
 }
 
-// Where a walk for a chunk takes whom it gets, the first yes ends it: how many were evicted, passed, and are left, and the
-// class's last event. Where no answer is yes it is the last move of the juggling.
+// Where a walk for a chunk takes the first that it gets, the first yes ends it: how many were evicted, passed, and are left, and
+// the class's last event. Where no answer is yes it is the last move of the juggling.
 fn plain_walk(yes: [bool; 5]) -> ((u64, u64, u64), &'static str) {
     match yes {
         [true, ..] => ((1, 0, 5), "evicts 0 past [] at 6"),
@@ -258,7 +258,7 @@ fn with_answer(alloc: Global, yes: [bool; 5], answer: bool) -> Result<Vec<u64>, 
     Ok(numbers)
 }
 
-// By a survey the dead are reclaimed and the walk goes on: those that are not had stay, in their order.
+// By a survey the dead are reclaimed and the walk goes on: those whose stripe isn't lent stay, in their order.
 fn check_pull<R: Abort>(rt: &R, world: &mut World, digits: u32) -> Result<(), Fail> {
     let yes = pattern(digits);
     let pulled = pull(world, 1001, &yes)?.expect(rt, "a walk");

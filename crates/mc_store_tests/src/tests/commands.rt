@@ -65,7 +65,7 @@ static JOINED: [Row; 11] = [
 
 // What is joined keeps the flags, and the expiry that a gat set.
 #[test]
-fn a_joined_value_dies_with_the_old_one(rt: HostRuntime) {
+fn a_joined_value_keeps_flags_and_the_expiry_of_a_gat(rt: HostRuntime) {
     check(&rt, rt.alloc(), 9, JOINED.as_slice());
 }
 

@@ -174,14 +174,15 @@ fn counters_of_four_threads_add_up(rt: HostRuntime) {
 static FLAGGED: [Row; 1] = [(0, 1000, On(b'n', Put(Set, 7, "0")), "Stored")];
 
 // HOT may hold a fifth of its class's bytes, so that its only entry, which was never read, goes to COLD.
-static ONE_MORE: [Row; 2] = [
+static ONE_MORE: [Row; 3] = [
     (0, 1000, Juggle(1), "reclaimed 0, moved 1"),
     (0, 1000, On(b'n', Incr(1)), "Number(1001)"),
+    (0, 1000, On(b'n', Get), "7 1001"),
 ];
 
 // No count is lost: 500 by each of two threads, and one more, are 1001.
 #[test]
-fn counters_of_two_threads_add_up(rt: HostRuntime) {
+fn a_counter_of_two_threads_keeps_its_flags(rt: HostRuntime) {
     let alloc = rt.alloc();
     let config = four_stripes(&rt, alloc);
     share(

@@ -110,7 +110,7 @@ fn look<R: Abort>(rt: &R, script: &mut Script, moment: u32, other: u8, row: &Row
     add(rt, script, (0, moment, Value(other), row.3));
 }
 
-// How many entries the class at a place has: the last ones, behind these others, those of a list, and the others none.
+// How many entries the class at a place should have: the last classes those of the list, the `others` before them none.
 fn wanted_at(place: usize, others: usize, last: &[u64]) -> u64 {
     match last.get(place.wrapping_sub(others)) {
         Some(entries) => *entries,

@@ -52,7 +52,7 @@ impl<'a, N: Named, R: Abort> Desk<'a, N, R> {
         ClassNo(class)
     }
 
-    // What is got of a class whose figures are read.
+    // What a class says whose figures are read.
     fn figured(&self, pass: &mut Pass<N>, class: u32) -> String
         requires { length N.config.sizes ≡ self.now.shape.classes }
     {
@@ -88,7 +88,7 @@ impl<'a, N: Named, R: Abort> Desk<'a, N, R> {
 }
 
 impl<'a, N: Named, R: Abort + Wait> Desk<'a, N, R> {
-    // What is got of a command; the cas number that it shows is noted.
+    // What a command is answered; the cas number that it shows is noted.
     fn replied(&self, pass: &mut Pass<N>, letter: u8, what: Ask, shown: &mut u64) -> String {
         let command = command_of(self.rt, self.alloc, letter, what, *shown);
         let reply = asking::answer(self.rt, self.alloc, self.store, pass, command, self.moment);
@@ -98,14 +98,14 @@ impl<'a, N: Named, R: Abort + Wait> Desk<'a, N, R> {
         text_of_reply(self.rt, self.alloc, &reply)
     }
 
-    // What is got of a key's value.
+    // What is answered of a key's value.
     fn value_of(&self, pass: &mut Pass<N>, letter: u8) -> String {
         let command = command_of(self.rt, self.alloc, letter, Ask::Get, 0);
         let reply = asking::answer(self.rt, self.alloc, self.store, pass, command, self.moment);
         text_of_value(self.rt, self.alloc, &reply)
     }
 
-    // What is got of a class that is juggled.
+    // What a class says that is juggled.
     fn juggled(&self, pass: &mut Pass<N>, class: u32) -> String
         requires { length N.config.sizes ≡ self.now.shape.classes }
     {
@@ -116,7 +116,7 @@ impl<'a, N: Named, R: Abort + Wait> Desk<'a, N, R> {
         )
     }
 
-    // What is got of a class that is crawled.
+    // What a class says that is crawled.
     fn crawled(&self, pass: &mut Pass<N>, class: u32) -> String
         requires { length N.config.sizes ≡ self.now.shape.classes }
     {
@@ -129,7 +129,7 @@ impl<'a, N: Named, R: Abort + Wait> Desk<'a, N, R> {
         .expect(self.rt, "a text")
     }
 
-    // What is got of a class that has a new limit of chunks.
+    // What a class says that has a new limit of chunks.
     fn limited(&self, pass: &mut Pass<N>, class: u32, chunks: u64) -> String
         requires { length N.config.sizes ≡ self.now.shape.classes }
     {

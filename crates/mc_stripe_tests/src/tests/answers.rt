@@ -59,10 +59,18 @@ const CAS_7: Asked = StoreUntil(Verb::Cas(7), "1", 10);
 const STORED: &str =
     "Stored; Item { flags: 7, value: Value { bytes: [49] }, expiry: At(1010), cas: 22, link: Link { class: ClassNo(1), number: 5 }, marks: Marks { fetched: false, active: false } }";
 
-static STORAGE: [Row; 13] = [
+// Sets of a value of one byte more than a chunk of class 1 holds, and of as many as one of class 2 holds.
+const LONG_SET: Asked = StoreUntil(Verb::Set, "12", 10);
+
+const LONGEST_SET: Asked = StoreUntil(Verb::Set, "12345", 10);
+
+static STORAGE: [Row; 16] = [
     (ABSENT, SET, AT, CHUNK, STORED),
     (OLD, SET, AT, CHUNK, STORED),
     (OLD, SET, REFUSED, CHUNK, "NoRoom; none"),
+    (ABSENT, SET, REFUSED, CHUNK, "NoRoom; none"),
+    (ABSENT, LONG_SET, REFUSED_LARGER, LARGER, "NoRoom; none"),
+    (ABSENT, LONGEST_SET, REFUSED_LARGER, LARGER, "NoRoom; none"),
     (OLD, ADD, Nothing, NOTHING, "NotStored; the same"),
     (ABSENT, ADD, AT, CHUNK, STORED),
     (ABSENT, ADD, REFUSED, CHUNK, "NoRoom; none"),
@@ -80,20 +88,13 @@ fn storage_commands_follow_the_table(rt: HostRuntime) {
     check_rows(&rt, rt.alloc(), STORAGE.as_slice());
 }
 
-// A value of one byte more than a chunk of class 1 holds, of as many as one of class 2 holds, and of one more.
-const LONG_SET: Asked = StoreUntil(Verb::Set, "12", 10);
-
-const LONGEST_SET: Asked = StoreUntil(Verb::Set, "12345", 10);
-
+// A value of one byte more than a chunk of class 2 holds.
 const SIX: &str = "123456";
 
 const LEFT: &str = "TooLarge; the same";
 
 // A block too large for each class is read or skipped.
-static LARGE: [Row; 13] = [
-    (ABSENT, SET, REFUSED, CHUNK, "NoRoom; none"),
-    (ABSENT, LONG_SET, REFUSED_LARGER, LARGER, "NoRoom; none"),
-    (ABSENT, LONGEST_SET, REFUSED_LARGER, LARGER, "NoRoom; none"),
+static LARGE: [Row; 10] = [
     (
         ABSENT,
         StoreUntil(Verb::Set, SIX, 10),
@@ -299,20 +300,6 @@ static LONGER: [Row; 1] = [(
 #[test]
 fn a_number_too_long_for_each_class_finds_no_space(rt: HostRuntime) {
     check_rows(&rt, rt.alloc(), LONGER.as_slice());
-}
-
-static OF_NONE: [Row; 6] = [
-    (ABSENT, Get, Nothing, NOTHING, "Miss; none"),
-    (ABSENT, Gat(10), Nothing, NOTHING, "Miss; none"),
-    (ABSENT, Incr(1), Nothing, NOTHING, "NotFound; none"),
-    (ABSENT, Decr(1), Nothing, NOTHING, "NotFound; none"),
-    (ABSENT, Touch(1), Nothing, NOTHING, "NotFound; none"),
-    (ABSENT, Delete, Nothing, NOTHING, "NotFound; none"),
-];
-
-#[test]
-fn of_an_absent_item_nothing_is_found(rt: HostRuntime) {
-    check_rows(&rt, rt.alloc(), OF_NONE.as_slice());
 }
 
 const FETCHED: There = Some(("x", true));

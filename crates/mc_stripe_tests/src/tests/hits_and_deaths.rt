@@ -2,13 +2,14 @@
 //! becomes of chunks was worked out by hand from the table of commands.
 use super::Asked::{Decr, Gat, Get, Huge, Incr, Store, StoreUntil, Touch};
 use super::calls::expire;
-use super::tries::{GROWN, MISS, NEW_1, NINE, OLD, check_all};
+use super::tries::{GROWN, MISS, NEW_1, NINE, OLD, OVER_1, check_all};
 use super::trying::Held::{Both, Home, Nothing, Other};
 use super::trying::Lent::{Link as Chunk, Nothing as Keep};
 use super::trying::Told::{Made, Wants};
 use super::trying::{Row, check_tries, opened};
-use mc_item::{Expiry, Verb};
-use mc_stripe::Fate::{Renewed, Untouched, Woken};
+use mc_item::{Expiry, Link, Verb};
+use mc_stripe::Fate;
+use mc_stripe::Fate::{Goes, Renewed, Untouched, Woken};
 use mc_stripe::Want::Burial;
 use mc_testing::WHO;
 
@@ -47,6 +48,21 @@ static LIVE: [Row; 13] = [
 fn the_hit_that_wakes_an_item_wants_no_class(rt: HostRuntime) {
     let mut stripe = opened(&rt, rt.alloc());
     check_tries(&rt, rt.alloc(), &mut stripe, 1000, LIVE.as_slice());
+}
+
+// What becomes of an item and its chunk, and the link that is told.
+static FATES: [(Fate, Option<Link>); 4] = [
+    (Woken(OLD), Some(OLD)),
+    (Goes(OLD), None),
+    (Untouched, None),
+    (OVER_1, None),
+];
+
+#[test]
+fn only_a_woken_item_tells_its_link(rt: HostRuntime) {
+    for (fate, wanted) in FATES.as_slice() {
+        assert_eq!(rt; fate.woken(), *wanted, "{fate:?}");
+    }
 }
 
 // A set of an item that dies at the moment 1100.

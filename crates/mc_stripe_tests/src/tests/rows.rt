@@ -17,7 +17,7 @@ use std::random::RandomSource;
 pub(super) enum Ask {
     // A command that is given the classes that it wants: its reply, what else is wanted, or the fault.
     Answer(Asked),
-    // The same of caller 9 in this turn, as many seconds behind the moment 1000.
+    // The same of caller 9 in this turn, as many seconds after the moment 1000.
     Turn(u32, Asked),
     // The same where the class is full.
     FullTurn(u32, Asked),

@@ -83,19 +83,6 @@ static TOUCHED: [Row; 7] = [
     (Store(Verb::Append, "1"), SECOND, GROWN, Untouched),
 ];
 
-// The item was hit twice.
-static ACTIVE: [Row; 3] = [
-    (Get, Nothing, Untouched, Untouched),
-    (Gat(100), Nothing, Untouched, Untouched),
-    (Touch(100), Nothing, Untouched, Untouched),
-];
-
-// The item's value is no number.
-static TEXT: [Row; 2] = [
-    (Incr(1), Nothing, Untouched, Untouched),
-    (Decr(1), Nothing, Untouched, Untouched),
-];
-
 // The item is dead, so that the key has none once that is forgotten.
 static DEAD: [Row; 7] = [
     (Get, Nothing, Untouched, Untouched),
@@ -231,27 +218,4 @@ fn an_item_that_was_hit_once_is_woken_by_the_next_hit(rt: HostRuntime) {
 fn a_dead_item_is_absent_once_it_is_buried(rt: HostRuntime) {
     let state = (HIT.as_slice(), 1100, Some(OLD));
     check_wants(&rt, rt.alloc(), state, DEAD.as_slice());
-}
-
-static HIT_TWICE: [rows::Row; 3] = [
-    (Answer(Store(Verb::Set, "9")), "Stored"),
-    (Answer(Touch(100)), "Touched"),
-    (
-        Answer(Get),
-        "Value { flags: 7, value: Value { bytes: [57] }, cas: 2 }",
-    ),
-];
-
-#[test]
-fn an_active_item_is_not_woken_again(rt: HostRuntime) {
-    let state = (HIT_TWICE.as_slice(), 1000, None);
-    check_wants(&rt, rt.alloc(), state, ACTIVE.as_slice());
-}
-
-static LETTER: [rows::Row; 1] = [(Answer(Store(Verb::Set, "x")), "Stored")];
-
-#[test]
-fn an_item_that_is_no_number_is_not_counted(rt: HostRuntime) {
-    let state = (LETTER.as_slice(), 1000, None);
-    check_wants(&rt, rt.alloc(), state, TEXT.as_slice());
 }

@@ -1,7 +1,9 @@
 //! Scripts that run at once, over sources and sinks of these tests.
-use super::runs::{Ends, Supply, WHOLE, add_script, asserts_outcomes, config_of, run_of};
+use super::runs::{
+    Ends, Supply, WHOLE, add_script, asserts_outcomes, asserts_output, config_of, run_of,
+};
 use super::supplies::{Pieces, Slow};
-use super::{add, lines, seed_of};
+use super::{add, host_of, lines};
 use mc_driver::{Outcome, RunFault, Source, SourceFault, run_scripts};
 use mc_history::History;
 use mc_item::{Key, Reply, StripeEvent, StripeNo};
@@ -144,7 +146,7 @@ fn asserts_replies<R: Abort>(rt: &R, ends: &[(Meeting<'_>, Told<'_, R>)], output
     }
 }
 
-// Each script goes on only when the other has replied: one behind the other would wait in vain.
+// Each script goes on only when the other has replied: run one after the other, they would never go on.
 #[test]
 fn two_scripts_run_at_once(rt: HostRuntime) {
     let input = lines(&rt, rt.alloc(), "get a|get b|");
@@ -258,7 +260,7 @@ fn fault_for<R: Abort + RandomSource + Threads + Wait + Sync>(
 ) -> Option<RunFault> {
     let config = config_of(rt, alloc, &["mcseg"]);
     let scripts = equal_scripts(rt, alloc, b"", count, NONE);
-    match run_scripts(rt, alloc, config, seed_of(rt), scripts, &[]) {
+    match run_scripts(host_of(rt, alloc), config, scripts, &[]) {
         Ok(_) => None,
         Err(fault) => Some(fault),
     }
@@ -285,4 +287,5 @@ fn a_read_that_fails_ends_its_own_script_alone(rt: HostRuntime) {
         Outcome::Done,
     ];
     asserts_outcomes(&rt, run.outcomes.as_slice(), outcomes.as_slice());
+    asserts_output(&rt, rt.alloc(), run.ends.as_slice(), "END|END|");
 }

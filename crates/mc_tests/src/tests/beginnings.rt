@@ -1,5 +1,5 @@
 //! Each beginning of a worked example's input, through the program: it ends well or as the example does, and what it prints
-//! begins what the example prints. Scripts are printed one behind the other, so those before the cut print all that they do.
+//! begins what the example prints. Scripts are printed one after the other, so those before the cut print all that they do.
 use super::{
     Example, Ran, Wanted, add, add_lines, asserts_ran, classes, crawls, examples, hits, joined,
     limits, lines, pieces, run_program, scripts, stripes, words,
@@ -100,6 +100,51 @@ fn each_beginning_of_joins_and_crawls_prints_a_beginning(rt: HostRuntime) {
 #[test]
 fn each_beginning_of_changed_limits_prints_a_beginning(rt: HostRuntime) {
     check_all(&rt, rt.alloc(), limits::EXAMPLES.as_slice());
+}
+
+// The requests of `pieces::ALL`, each with what it prints. A block that is too long is refused at its sixth byte.
+static PARTS: [(&str, &str); 10] = [
+    ("set a 7 0 5|hello|", "STORED|"),
+    ("get a|", "VALUE a 7 5|hello|END|"),
+    ("set b 0 0 2|10|", "STORED|"),
+    ("decr b 1|", "9|"),
+    ("gets a b|", "VALUE a 7 5 1|hello|VALUE b 0 2 3|9 |END|"),
+    ("get|", "ERROR|"),
+    ("set a 0 0 3|abcd\r", "CLIENT_ERROR bad data chunk|"),
+    ("\n", "ERROR|"),
+    ("delete b noreply|", ""),
+    ("get b|", "END|"),
+];
+
+// What the requests print that end within so many bytes.
+fn printed_within<R: Abort>(rt: &R, alloc: Global, bytes: usize) -> Vec<u8> {
+    let mut output = Vec::new(alloc);
+    let mut end = 0usize;
+    for (request, replies) in PARTS.as_slice() {
+        end = end.saturating_add(lines(rt, alloc, request).len());
+        if end > bytes {
+            break;
+        }
+        add_lines(rt, &mut output, replies);
+    }
+    output
+}
+
+#[test]
+fn each_beginning_prints_the_replies_to_its_whole_requests(rt: HostRuntime) {
+    let input = lines(&rt, rt.alloc(), pieces::ALL.input);
+    for place in 0..=input.len() {
+        let front = input.as_slice().split_at(place).0;
+        let ran = run_program(&rt, rt.alloc(), pieces::ALL.words, front);
+        let output = printed_within(&rt, rt.alloc(), place);
+        let wanted = Wanted {
+            name: "whole requests",
+            status: 0,
+            output: output.as_slice(),
+            errors: b"",
+        };
+        asserts_ran(&rt, &ran, &wanted, place);
+    }
 }
 
 // 300 bytes of 255 are no text, and a line like another.

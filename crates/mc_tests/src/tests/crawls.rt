@@ -2,7 +2,7 @@
 use super::{Example, all_hold};
 
 pub(super) static EXAMPLES: [Example; 6] = [
-    // At 1000 `g` and `a` have died or die within a minute, and so on; `f` never does.
+    // At 1000 `g` is dead, `a` and `b` have less than a minute, `c` has one, `d` 59, `e` an hour, and `f` never dies.
     Example {
         name: "each item is counted by the minutes that it has left",
         words: &["mcseg"],

@@ -2,7 +2,7 @@
 use super::{Example, all_hold};
 
 /// The worked examples of one script, those with options too.
-pub static EXAMPLES: [Example; 38] = [
+pub static EXAMPLES: [Example; 39] = [
     Example {
         name: "a set is read back",
         words: &["mcseg"],
@@ -304,6 +304,15 @@ pub static EXAMPLES: [Example; 38] = [
         words: &["mcseg"],
         input: "delete a 0|GET a|",
         output: "ERROR|ERROR|",
+        status: 0,
+        errors: "",
+    },
+    // A key of at most 30 bytes stands in its item, and a longer one in memory of its own.
+    Example {
+        name: "keys of 30 bytes, of 31 and of 32",
+        words: &["mcseg"],
+        input: "set kkkkkkkkkkkkkkkkkkkkkkkkkkkkkkk 0 0 1|1|set kkkkkkkkkkkkkkkkkkkkkkkkkkkkkk 0 0 1|2|get kkkkkkkkkkkkkkkkkkkkkkkkkkkkkkk kkkkkkkkkkkkkkkkkkkkkkkkkkkkkk kkkkkkkkkkkkkkkkkkkkkkkkkkkkkkkk|",
+        output: "STORED|STORED|VALUE kkkkkkkkkkkkkkkkkkkkkkkkkkkkkkk 0 1|1|VALUE kkkkkkkkkkkkkkkkkkkkkkkkkkkkkk 0 1|2|END|",
         status: 0,
         errors: "",
     },

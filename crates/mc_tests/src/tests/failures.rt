@@ -38,7 +38,7 @@ static FAILURES: [Failure; 13] = [
         errors: "mcseg: input failed\n",
     },
     Failure {
-        name: "a reader that no version asks",
+        name: "a reader that `--version` doesn't ask",
         fails: READ,
         words: &["mcseg", "--version"],
         input: "",
@@ -156,7 +156,7 @@ fn check_failure<R: Abort + RandomSource + Threads + Wait + Sync>(
 }
 
 #[test]
-fn a_failed_read_or_write_ends_with_status_3(rt: HostRuntime) {
+fn each_failure_has_its_status_and_its_line(rt: HostRuntime) {
     for failure in FAILURES.as_slice() {
         check_failure(&rt, rt.alloc(), failure);
     }

@@ -1,5 +1,5 @@
 //! Readers and writers that fail at a place, under the program.
-use super::{Ran, seed_of};
+use super::{Ran, host_of};
 use mc_driver::run_words;
 use std::alloc::Global;
 use std::io::{self, ErrorKind, Read, Write};
@@ -113,11 +113,8 @@ pub(super) fn run_faulty<R: Abort + RandomSource + Threads + Wait + Sync>(
         room: fails.errors,
         holds_back: true,
     };
-    let seed = seed_of(rt);
     let status = run_words(
-        rt,
-        alloc,
-        seed,
+        host_of(rt, alloc),
         words,
         &mut reader,
         &mut output,

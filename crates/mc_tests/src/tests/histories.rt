@@ -21,7 +21,7 @@ struct Left {
 
 static LEFT: [Left; 3] = [
     // The item of `a` costs 64 and 2 bytes, that of `bb` 64 and 4: both are of class 1, whose items have at most 96. Each call
-    // has the next turn, and each new item the next link of its class. `a` dies ten seconds behind moment 1000.
+    // has the next turn, and each new item the next link of its class. `a` dies ten seconds after moment 1000.
     Left {
         words: &["mcseg"],
         script: "set a 7 10 1|x|bogus|incr a 1|gets a b|%at 1010|touch a 0 noreply|set bb 0 0 2 noreply|19|incr bb 1|quit|get a|",

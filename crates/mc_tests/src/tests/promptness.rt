@@ -1,5 +1,5 @@
 //! A conversation whose reader gives the next piece only once all that is owed was written and flushed.
-use super::{same_bytes, same_status, seed_of};
+use super::{host_of, same_bytes, same_status};
 use mc_driver::run_words;
 use std::alloc::Global;
 use std::io::{self, ErrorKind, Read, Write};
@@ -91,11 +91,8 @@ fn held_with<R: Abort + RandomSource + Threads + Wait + Sync>(
         written,
     };
     let mut errors = Vec::new(alloc);
-    let seed = seed_of(rt);
     let status = run_words(
-        rt,
-        alloc,
-        seed,
+        host_of(rt, alloc),
         &["mcseg", "--follow"],
         &mut reader,
         &mut output,

@@ -3,7 +3,7 @@ ghost use Rattle.std.specs.Prelude.{◌≡◌, ◌≤◌, ◌^◌, length};
 ghost use Rattle.std.specs.List.{All};
 
 use super::supplies::{Pieces, Slow};
-use super::{add, seed_of};
+use super::{add, host_of};
 use mc_driver::{Outcome, Run, Source, run_scripts};
 use mc_item::Config;
 use mc_options::read_words;
@@ -91,7 +91,7 @@ pub(super) fn run_of<
     ensures stripes { length result.ledger.stripes ≡ config.stripes }
     ensures classes { length result.ledger.classes ≡ length config.sizes }
 {
-    let Ok(run) = run_scripts(rt, alloc, config, seed_of(rt), scripts, upkeep) else {
+    let Ok(run) = run_scripts(host_of(rt, alloc), config, scripts, upkeep) else {
         panic!(rt; "no run");
     };
     run
@@ -102,7 +102,7 @@ pub(super) fn first_of<R: Abort>(rt: &R, outcomes: &[Outcome]) -> Outcome {
     *outcomes.first().expect(rt, "an outcome")
 }
 
-/// What the sinks took, one behind the other.
+/// What the sinks took, one after the other.
 pub(super) fn output_of<R: Abort>(rt: &R, alloc: Global, ends: &[Ends<'_, R>]) -> Vec<u8> {
     let mut output = Vec::new(alloc);
     for end in ends {
@@ -122,7 +122,7 @@ pub(super) fn asserts_outcomes<R: Abort>(rt: &R, outcomes: &[Outcome], wanted: &
     assert_eq!(rt; outcomes, wanted);
 }
 
-/// Asserts what the sinks took, one behind the other; a bar stands for CR LF.
+/// Asserts what the sinks took, one after the other; a bar stands for CR LF.
 pub(super) fn asserts_output<R: Abort>(rt: &R, alloc: Global, ends: &[Ends<'_, R>], wanted: &str) {
     let output = output_of(rt, alloc, ends);
     let wanted = super::lines(rt, alloc, wanted);

@@ -96,7 +96,7 @@ fn check_pair<R: Abort + RandomSource + Threads + Wait + Sync>(
 // The first script's output has 109 bytes, and the second's 44.
 #[test]
 fn a_write_that_fails_ends_its_own_script_alone(rt: HostRuntime) {
-    for write in 0..36 {
+    for write in 0..37 {
         check_pair(&rt, rt.alloc(), 0, write);
     }
     for write in 0..15 {

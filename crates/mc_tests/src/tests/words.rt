@@ -161,7 +161,7 @@ pub(super) static EXAMPLES: [Example; 18] = [
 ];
 
 #[test]
-fn words_that_are_refused_say_why(rt: HostRuntime) {
+fn words_are_taken_or_refused_with_a_reason(rt: HostRuntime) {
     all_hold(&rt, rt.alloc(), EXAMPLES.as_slice());
 }
 

@@ -1,4 +1,4 @@
-use Rattle.std.proofs.Common.{◌≡◌, ◌∙◌, ◌∷◌, [], Some, false, refl, ap, subst, sym}
+use Rattle.std.proofs.Common.{◌≡◌, ◌∙◌, ◌∷◌, [], Some, false, ap, subst, sym}
 use Rattle.std.specs.Option.{option_copied}
 use Rattle.std.proofs.lemmas.List.{append-nil}
 use Rattle.mc_rule.specs.Lists.{find, lists_of}
@@ -42,5 +42,5 @@ returns-in_err-done-clause-gains g c = gains_room false c.args.class.now c.look_
 pub returns-clause-gains : goal.returns-clause-gains
 returns-clause-gains g c =
     gains_judged c.args.class.now (question c.args.context.turn.who c.args.number Hit c.args.context.turn.moment)
-    c.args.context.config.now c.stripe_of-stripe.result c.in_ok-done.ensures.answer.judged c.look_at.new.class refl
+    c.args.context.config.now c.stripe_of-stripe.result c.in_ok-done.ensures.answer.judged c.look_at.new.class
     (judged_of (g.G.Gate.reaches c.args.gate.now c.look_at.new.gate) _ _ _ _ _ c.in_ok-done.ensures.answer.reached) c.in_ok-done.ensures.answer.class

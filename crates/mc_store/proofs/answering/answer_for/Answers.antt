@@ -77,7 +77,8 @@ returns-in-Room g c =
     let at = c.answer_at_home in
     let is = ap (λ (x : StripeSide). x.stripe) c.tell_stripe.ensures.stripe in
     let heard = tries_heard config turn mid told c.tell_stripe.ensures.stripe c.tell_stripe.ensures.grows c.tell_stripe.ensures.same in
-    ends_same config command turn own told (subst (λ (t : Stripe). KeepsSite own.stripe t) (sym is) c.try_home.ensures.site) c.args.caller.now c.tell_stripe.new.self
+    ends_same config command turn own told (subst (λ (t : Stripe). KeepsSite own.stripe t) (sym is) c.try_home.ensures.site)
+    c.args.caller.now c.tell_stripe.new.self
     (tries_both config turn own mid told c.try_home.ensures.site.site tried.1 heard) (ap (λ (t : Stripe). t.history) is ∙ tried.0) at.new.own at.new.caller at.result at.ensures
 
 pub returns : goal.returns

@@ -6,10 +6,11 @@ use Rattle.mc_board.specs.{Histories.Grows}
 use Rattle.mc_segment.specs.{ClassCalls.Makes, ClassCalls.refused_event, ClassState.ClassView}
 use Rattle.mc_stripe.specs.{Plan.visible_row, StripeCalls.KeepsSite, StripeState.Stripe}
 use Rattle.mc_store.specs.{Accounts.stretch_of, Earned.HasGivenUp, Earned.IsEarnedAt, Full.HasSeenFull, Full.IsFullFor, Full.LacksEntries, Held.Ends, Held.IsStillFull, Held.Suffice, Held.class_held, Passes.CallerView}
-use Rattle.mc_store.specs.{Searches.HasSeenOf, Searches.IsSearchFor, Searches.IsSearchedIf, Serving.IsShortFor, Sides.StripeSide, Trying.StillSearches, Trying.StillTries}
-use Rattle.mc_store.proofs.{AccountLemmas.still_longer, CallerLemmas.search_sees, CommandEndLemmas.ends_err, CommandEndLemmas.ends_made, CommandEndLemmas.searched_same, CommandEndLemmas.searched_walk}
+use Rattle.mc_store.specs.{Searches.HasSeenOf, Searches.IsSearchFor, Searches.IsSearchedIf, Searches.searcher_at, Serving.IsShortFor, Sides.StripeSide, Sides.stripe_sight, Trying.StillSearches, Trying.StillTries}
+use Rattle.mc_store.proofs.{AccountLemmas.grows_itself, AccountLemmas.still_longer, CallerLemmas.search_sees}
+use Rattle.mc_store.proofs.CommandEndLemmas.{ends_err, ends_made, searched_same, searched_walk}
 use Rattle.mc_store.proofs.{CommandEndLemmas.suffice_same, CommandLemmas.fresh_visible, EarnedRefusalLemmas.made_longer, EarnedRefusalLemmas.refused_bounds, UnderLockLemmas.site_itself}
-use Rattle.mc_store.proofs.{EarnedRefusalLemmas.search_alone, EarnedRefusalLemmas.search_grows, EarnedRefusalLemmas.search_refused, EarnedRefusalLemmas.seen_of_grows, EarnedRefusalLemmas.stayed_longer}
+use Rattle.mc_store.proofs.{EarnedRefusalLemmas.search_alone, EarnedRefusalLemmas.search_wider, EarnedRefusalLemmas.search_refused, EarnedRefusalLemmas.seen_of_grows, EarnedRefusalLemmas.stayed_longer}
 use Rattle.mc_store.proofs.{EnteredLemmas.StillMakes, EnteredLemmas.makes_searched, EnteredLemmas.makes_then_searched, EnteredLemmas.makes_then_tried, EnteredLemmas.tries_asked, FullLemmas.entries_later}
 use Rattle.mc_store.proofs.{FullLemmas.full_search, FullLemmas.seen_full_grows, HeldTryLemmas.earned_now, HeldTryLemmas.no_burial, HeldTryLemmas.refuse_short, HeldTryLemmas.some_none, HeldTryLemmas.wants_place}
 use Rattle.mc_store.proofs.{LockKeepsLemmas.grows_trans, NeededClassLemmas.begun_search, NeededClassLemmas.suffice_behind, ShortHistoryLemmas.short_grows, UnderLockLemmas.IsSearched, UnderLockLemmas.site_both}
@@ -46,14 +47,16 @@ module _ (g : Over) (c : After-search g) where
       c.requires.wants.fresh
 
   -- the search was whole, and who saw more sees that too
-  module _ (whole : IsSearchedIf g.N.Named.config c.args.task.turn.who c.args.task.turn.moment c.search.new.own.sight c.args.home.now.class c.search.new.home.class)
-      (end : StripeSide) (sees : Grows c.search.new.own.sight end.sight) where
-    sought : IsSearchFor g.N.Named.config (visible_row c.args.own.now.stripe c.args.task.command.now c.args.task.turn.moment).need c.args.task.turn.who c.args.task.turn.moment end.sight
-        (stretch_of c.args.home.now.class c.search.new.home.class)
-    sought = search_grows g.N.Named.config (visible_row c.args.own.now.stripe c.args.task.command.now c.args.task.turn.moment).need c.args.task.turn.who c.args.task.turn.moment
-        c.search.new.own.sight end.sight (stretch_of c.args.home.now.class c.search.new.home.class) sees
-        (search_alone g.N.Named.config (visible_row c.args.own.now.stripe c.args.task.command.now c.args.task.turn.moment).need c.args.task.turn.who c.args.task.turn.moment
-        c.search.new.own.sight c.args.home.now.class c.search.new.home.class need whole)
+  module _ (whole : IsSearchedIf (searcher_at g.N.Named.config c.args.own.now.stripe c.args.task.turn) (stripe_sight c.args.own.now) c.search.new.own.sight c.args.home.now.class
+      c.search.new.home.class) (end : StripeSide) (sees : Grows c.search.new.own.sight end.sight) where
+    sought : IsSearchFor (searcher_at g.N.Named.config c.args.own.now.stripe c.args.task.turn) (visible_row c.args.own.now.stripe c.args.task.command.now c.args.task.turn.moment).need
+        (stripe_sight c.args.own.now) end.sight (stretch_of c.args.home.now.class c.search.new.home.class)
+    sought =
+        let by = searcher_at g.N.Named.config c.args.own.now.stripe c.args.task.turn in
+        let wanted = (visible_row c.args.own.now.stripe c.args.task.command.now c.args.task.turn.moment).need in
+        let first = stripe_sight c.args.own.now in
+        search_wider by wanted first first c.search.new.own.sight end.sight (stretch_of c.args.home.now.class c.search.new.home.class) (grows_itself first) sees
+        (search_alone by wanted first c.search.new.own.sight c.args.home.now.class c.search.new.home.class need whole)
 
     -- so the command ends with a fault if a try behind that made nothing
     ends_tried : (caller : CallerView) (r : Result Replied Fault) (fault : Fault) → IsErrAnd r (λ x. x ≡ fault) → KeepsSite c.search.new.own.stripe end.stripe
@@ -97,8 +100,8 @@ module _ (g : Over) (c : After-refuse g) where
       let stretch = stretch_of was c.refuse.new.lent.class in
       let here = stretch_of c.try_home.new.home.class c.refuse.new.lent.class in
       let need = fresh_visible c.args.own.now.stripe command turn.moment was.number c.requires.wants.suffice.alive c.requires.wants.fresh in
-      let bounds = refused_bounds config turn.who turn.moment c.search.new.own.sight was c.search.new.home.class c.try_home.new.home.class c.refuse.new.lent.class c.in_ok-search.ensures.tried.1
-      full.history_is longer in
+      let bounds = refused_bounds (searcher_at config c.args.own.now.stripe turn) (stripe_sight c.args.own.now) c.search.new.own.sight was c.search.new.home.class c.try_home.new.home.class
+      c.refuse.new.lent.class c.in_ok-search.ensures.tried.1 full.history_is longer in
       makes_then_searched config command turn stretch c.args.own.now c.try_home.new.own c.refuse.new.own was.number need
       (makes_then_tried config command turn stretch c.args.own.now c.search.new.own c.try_home.new.own c.search.ensures.site.site
       (makes_searched config command turn stretch c.args.own.now c.search.new.own was.number need
@@ -116,8 +119,8 @@ module _ (g : Over) (c : After-refuse g) where
 
   -- if the class noted its refusal, the search was whole with that, and who saw more sees it too
   module _ (made : Makes c.try_home.new.home.class c.refuse.new.lent.class (refused_event c.args.task.turn.who)) (end : StripeSide) (sees : Grows c.refuse.new.own.sight end.sight) where
-    sought_here : IsSearchFor g.N.Named.config (visible_row c.args.own.now.stripe c.args.task.command.now c.args.task.turn.moment).need c.args.task.turn.who c.args.task.turn.moment end.sight
-        (stretch_of c.args.home.now.class c.refuse.new.lent.class)
+    sought_here : IsSearchFor (searcher_at g.N.Named.config c.args.own.now.stripe c.args.task.turn) (visible_row c.args.own.now.stripe c.args.task.command.now c.args.task.turn.moment).need
+        (stripe_sight c.args.own.now) end.sight (stretch_of c.args.home.now.class c.refuse.new.lent.class)
     sought_here =
         let config = g.N.Named.config in
         let turn = c.args.task.turn in
@@ -125,7 +128,9 @@ module _ (g : Over) (c : After-refuse g) where
         let lent = c.refuse.new.lent.class in
         let history = ap (λ (v : ClassView). v.history) made ∙ ap (λ (h : List ClassEvent). h ++ refused_event turn.who ∷ []) full.history_is in
         let seen = subst (λ (k : ClassNo). HasSeenOf config c.refuse.new.own.sight k lent.history) number c.refuse.ensures.own.2 in
-        search_refused config (visible_row c.args.own.now.stripe c.args.task.command.now turn.moment).need turn.who turn.moment c.search.new.own.sight end.sight was c.search.new.home.class lent
+        search_refused (searcher_at config c.args.own.now.stripe turn) (visible_row c.args.own.now.stripe c.args.task.command.now turn.moment).need (stripe_sight c.args.own.now) c.search.new.own.sight
+        end.sight was c.search.new.home.class lent
+        (grows_trans c.search.new.own.sight c.try_home.new.own.sight end.sight c.try_home.ensures.sees (grows_trans c.try_home.new.own.sight c.refuse.new.own.sight end.sight c.refuse.ensures.own.1 sees))
         (fresh_visible c.args.own.now.stripe c.args.task.command.now turn.moment was.number c.requires.wants.suffice.alive c.requires.wants.fresh) full.was_full c.in_ok-search.ensures.tried.1 history
         (seen_of_grows config was.number lent.history c.refuse.new.own.sight end.sight sees seen)
 
@@ -209,7 +214,8 @@ returns-in_err-place-in-Room g c =
     let more = c.refuse.ensures.own.1 in
     let err = c.in_err-place-in-Room.ensures.err in
     let wanted = (visible_row c.args.own.now.stripe c.args.task.command.now turn.moment).need in
-    let whole = subst (λ (h : List ClassEvent). IsSearchFor config wanted turn.who turn.moment end.sight (record { from = length c.args.home.now.class.history; until = length h }))
+    let whole = subst (λ (h : List ClassEvent). IsSearchFor (searcher_at config c.args.own.now.stripe turn) wanted (stripe_sight c.args.own.now) end.sight
+    (record { from = length c.args.home.now.class.history; until = length h }))
     (sym (ap (λ (v : ClassView). v.history) err.0 ∙ (full g at).history_is))
     (sought g behind c.in_ok-search.ensures.tried.1 end (grows_trans c.search.new.own.sight first end.sight c.try_home.ensures.sees more)) in
     ends_err config c.args.task.command.now turn c.args.own.now c.search.new.own c.requires.wants.suffice.alive (searched g behind) c.search.ensures.site

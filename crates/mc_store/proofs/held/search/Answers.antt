@@ -2,7 +2,7 @@ use Rattle.std.proofs.Common.{◌∙◌, Err, ap, inr, refl, rules, sym}
 use Rattle.mc_segment.specs.ClassState.{ClassView}
 use Rattle.mc_store.proofs.EarnedRefusalLemmas.{gone_through, searched_broken, searched_once}
 use Rattle.mc_store.proofs.{FullLemmas.seen_before, ShortHistoryLemmas.err_is, ShortHistoryLemmas.match_err, VisitedStripeLemmas.full_vain}
-use Rattle.mc_store.specs.{Accounts.stretch_of, Searches.IsCutSearch}
+use Rattle.mc_store.specs.{Accounts.stretch_of, Reached.IsSeenState, Searches.IsCutSearch, Searches.searcher_at, Sides.stripe_sight}
 use Rattle.mc_store.proofs.held.search.Goals as goal
 
 pub make_room_under-requires : goal.make_room_under-requires
@@ -24,13 +24,17 @@ returns-clause-tried g c =
     let moment = c.args.task.turn.moment in
     let made_with = c.side.ensures.kept.held.made_with in (
       λ full key own alive.
-          let vain = full_vain config was new who moment found.ensures.room.0 found.field-0 c.make_room_under.ensures.class found.ensures.room.1 full in
+          let vain = full_vain config was new who moment found.ensures.room.answers found.field-0 c.make_room_under.ensures.class found.ensures.room.room full in
           let in_vain = found.ensures.tried vain in (
             in_vain.any key own alive,
             gone_through config (record { 0 = c.args.own.now.stripe.site.stripe }) was new.number who moment new.history made_with
                 (sym (ap (λ (v : ClassView). v.number) c.make_room_under.ensures.class.same)) in_vain.rounds_are,
           ),
-      inr (searched_once config was who moment found.ensures.room.0 new.history found.field-0 made_with found.ensures.room.1, c.make_room_under.ensures.seen),
+      inr (
+        searched_once (searcher_at config c.args.own.now.stripe c.args.task.turn) was (IsSeenState config.stripes (stripe_sight c.args.own.now) c.make_room_under.new.own.sight) new.history found.field-0
+            made_with found.ensures.room,
+        c.make_room_under.ensures.seen,
+      ),
     )
 
 pub returns-in_err-make_room_under-clause-tried : goal.returns-in_err-make_room_under-clause-tried
@@ -38,14 +42,14 @@ returns-in_err-make_room_under-clause-tried g c =
     let config = g.N.Named.config in
     let was = c.args.home.now.class in
     let new = c.make_room_under.new.class.class in
-    let who = c.args.task.turn.who in
-    let moment = c.args.task.turn.moment in
-    let broken = c.in_err-make_room_under.ensures.room in
-    let Cut = IsCutSearch config was.number who moment c.make_room_under.new.own.sight (stretch_of was new) in
+    let own = c.args.own.now in
+    let by = searcher_at config own.stripe c.args.task.turn in
+    let end = c.make_room_under.new.own.sight in
+    let Cut = IsCutSearch by was.number (stripe_sight own) end (stretch_of was new) in
     let cut : Cut = record {
       before = was.history;
       searched = new.history;
-      broken = searched_broken config was who moment broken.0 new.history c.side.ensures.kept.held.made_with broken.1;
+      broken = searched_broken by was (IsSeenState config.stripes (stripe_sight own) end) new.history c.side.ensures.kept.held.made_with c.in_err-make_room_under.ensures.room;
       from_is = refl;
       until_is = refl;
       seen = c.make_room_under.ensures.seen;

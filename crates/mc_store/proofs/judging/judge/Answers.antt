@@ -1,20 +1,22 @@
-use Rattle.std.proofs.Common.{rules, ◌≡◌, ap, length, sym, subst, ◌∙◌}
+use Rattle.std.proofs.Common.{◌≡◌, ap, length, sym, subst, ◌∙◌}
 use Rattle.std.specs.Prelude.{◌≤◌}
 use Rattle.mc_item.specs.declared.config.Config.{Config}
 use Rattle.mc_item.specs.declared.item.StripeNo.{StripeNo}
 use Rattle.mc_pull.specs.declared.looking.Judged.{Judged}
-use Rattle.mc_pull.specs.{Judgement.done_of, Lone.StripeGrows, Looks.IsJudgedBy, Question.HasKeyOf, Question.question_of, Walker.Walker, Walker.walker_of}
+use Rattle.mc_pull.specs.{Judgement.done_of, Lone.StripeGrows, Looks.IsJudgedBy, Question.HasKeyOf, Question.question_of}
+use Rattle.mc_pull.specs.{Settled.IsSettled, Settled.class_with, Settled.done_class_events, Walker.Walker, Walker.walker_of}
+use Rattle.mc_segment.specs.ClassState.{with_room}
 use Rattle.mc_pull.specs.Growth as classes
 use Rattle.mc_pull.proofs.OneStripeGateLemmas.{settle_walked}
 use Rattle.mc_board.specs.Views.{OwnerView}
 use Rattle.mc_stripe.specs.StripeState.{Stripe, cache_now}
-use Rattle.mc_store.specs.{Looked.IsKnown, Passes.CallerView, Serving.MayFailSeen, Sides.StripeSide, Locked.HasBegun, Locked.IsLockedStripe, Walking.LeavesJudged, Walking.StillWalksFrom}
+use Rattle.mc_store.specs.{Looked.IsKnown, Passes.CallerView, Sides.StripeSide, Locked.HasBegun, Locked.IsLockedStripe, Walking.IsJudgedUnder, Walking.LeavesJudged, Walking.StillWalksFrom}
 use Rattle.mc_store.specs.declared.locked.LockedStripe.TheInside.{Inside}
 use Rattle.mc_store.specs.declared.owned_stripe.OwnedStripe.TheInside as owned
 use Rattle.mc_store.specs.Reached.{IsSeenState}
 use Rattle.mc_store.proofs.JudgedEntryLemmas.{class_judged, fault_judged, known_judged, owner_judged, state_judged, still_judged, stripe_judged}
-use Rattle.mc_store.proofs.{SyncedStepLemmas.class_told_more, SyncedStepLemmas.handed_on, SyncedStepLemmas.settled_grows, SyncedStepLemmas.settled_told, LockKeepsLemmas.grows_trans}
-use Rattle.mc_store.proofs.{ShortHistoryLemmas.match_err, SyncedStepLemmas.stripe_side}
+use Rattle.mc_store.proofs.{SyncedStepLemmas.class_told_more, SyncedStepLemmas.settled_grows, SyncedStepLemmas.settled_told, LockKeepsLemmas.grows_trans}
+use Rattle.mc_store.proofs.{SeenStripeLemmas.if_err_more, ShortHistoryLemmas.if_ok_both, ShortHistoryLemmas.match_more, SyncedStepLemmas.stripe_side}
 use Rattle.mc_store.proofs.OwnCallLemmas.{class_settled_by, stripe_walked_by}
 use Rattle.mc_store.proofs.judging.judge.Given.{Over}
 use Rattle.mc_store.proofs.judging.judge.Goals as goal
@@ -125,60 +127,48 @@ catch_up_class-requires-2-clause-behind g c =
     class_told_more _ _ c.tell.new.self.history grows (ap (λ (o : OwnerView). o.history) (c.tell.ensures.same ∙ c.catch_up_class.ensures.told))
 
 pub returns-clause-still : goal.returns-clause-still
-returns-clause-still g c = still g (goal.at.returns-clause-still g c).After-tell-4
-
-pub returns-in_err-judged-clause-still : goal.returns-in_err-judged-clause-still
-returns-in_err-judged-clause-still g c = still g (goal.at.returns-in_err-judged-clause-still g c).After-tell-4
-
-pub returns-clause-owner : goal.returns-clause-owner
-returns-clause-owner g c = owner_longer g (goal.at.returns-clause-owner g c).After-tell-4
-
-pub returns-in_err-judged-clause-owner : goal.returns-in_err-judged-clause-owner
-returns-in_err-judged-clause-owner g c = owner_longer g (goal.at.returns-in_err-judged-clause-owner g c).After-tell-4
+returns-clause-still g c = (owner_longer g c, still g c)
 
 pub invariant_of-stripe : goal.invariant_of-stripe
-invariant_of-stripe g c = stripe_kept g (goal.at.invariant_of-stripe g c).After-tell-4
-
-pub invariant_of-stripe-2 : goal.invariant_of-stripe-2
-invariant_of-stripe-2 g c = stripe_kept g (goal.at.invariant_of-stripe-2 g c).After-tell-4
+invariant_of-stripe g c = stripe_kept g c
 
 pub returns-clause-left : goal.returns-clause-left
-returns-clause-left g c = left g (goal.at.returns-clause-left g c).After-tell-4
+returns-clause-left g c = left g c
 
-pub returns-in_err-judged-clause-left : goal.returns-in_err-judged-clause-left
-returns-in_err-judged-clause-left g c = left g (goal.at.returns-in_err-judged-clause-left g c).After-tell-4
-
-pub returns-in_err-judged-clause-fault : goal.returns-in_err-judged-clause-fault
-returns-in_err-judged-clause-fault g c =
-    let at = (goal.at.returns-in_err-judged-clause-fault g c).After-tell-4 in
+pub returns-clause-fault : goal.returns-clause-fault
+returns-clause-fault g c =
     let own = c.stripe-inside.inside.0.0 in
     let lent = c.stripe-inside-2.inside.0.0 in
     let did = c.settle-settled.ensures in
-    handed_on (MayFailSeen g.N.Named.config c.tell-4.new.seen.sight c.settle-settled.new.self.class.now) c.in_err-judged.field-0.0 c.from_residual.result c.from_residual.ensures.1
-    (fault_judged _ _ _ c.stripe.invariant _ own.owner _ (own_is g at) _ _ _ c.requires.look.served _ _ c.catch_up_class.ensures.told c.tell.ensures.same _ c.tell.ensures.whole c.tell.ensures.grows
-    _ _ c.tell-2.ensures.same c.tell-2.ensures.told c.tell-2.ensures.grows _ lent.owner _ (lent_is g at) _ _ did.keeps.site (grew g at) c.history.ensures.legal c.law.ensures.lawful did.keeps.agreement did.keeps.sight
+    if_err_more c.settle-settled.result _ _ (λ fault refused.
+    fault_judged _ _ _ c.stripe.invariant _ own.owner _ (own_is g c) _ _ _ c.requires.look.served _ _ c.catch_up_class.ensures.told c.tell.ensures.same _ c.tell.ensures.whole c.tell.ensures.grows
+    _ _ c.tell-2.ensures.same c.tell-2.ensures.told c.tell-2.ensures.grows _ lent.owner _ (lent_is g c) _ _ did.keeps.site (grew g c) c.history.ensures.legal c.law.ensures.lawful did.keeps.agreement did.keeps.sight
     _ c.catch_up_stripe.ensures.told _ _ c.catch_up_class-2.ensures.told c.tell-3.ensures.same _ c.tell-3.ensures.whole c.tell-3.ensures.grows
-    _ _ c.tell-4.ensures.same c.tell-4.ensures.told c.tell-4.ensures.grows c.in_err-judged.field-0.0 c.in_err-judged.ensures.refusal.full)
+    _ _ c.tell-4.ensures.same c.tell-4.ensures.told c.tell-4.ensures.grows fault refused.full) did.refusal
 
 pub returns-clause-judged : goal.returns-clause-judged
 returns-clause-judged g c =
-    let at = (goal.at.returns-clause-judged g c).After-tell-4 in
     let own = c.stripe-inside.inside.0.0 in
     let lent = c.stripe-inside-2.inside.0.0 in
+    let did = c.settle-settled.ensures in
+    let r = c.settle-settled.result in
     let q = question_of c.args.look.now.ask in
+    let s = c.args.stripe.now.stripe in
     let class = c.args.look.now.class.now in
-    let j = c.in_ok-judged.judged in
-    let follows = c.in_ok-judged.ensures.follows in
+    let after = c.settle-settled.new.self.class.now in
     let number : Stripe → StripeNo = λ s. record { 0 = s.site.stripe } in
-    let known =
-    subst (λ (s : Stripe). HasKeyOf (number s) g.N.Named.config class q → IsKnown class s q j) (lent_state g at) (λ keyed.
-    known_judged _ _ _ c.stripe.invariant _ own.owner _ (own_is g at) _ _ _ c.requires.look.served _ _ c.catch_up_class.ensures.told c.tell.ensures.same _ c.tell.ensures.whole c.tell.ensures.grows
-    _ _ c.tell-2.ensures.same c.tell-2.ensures.told c.tell-2.ensures.grows _ lent.owner lent.seen (lent_is g at)
-    q j c.requires.look.may keyed (follows.0.done_is ∙ ap (λ (s : Stripe). done_of class (cache_now s) q) follows.1)) in
-    let reached =
-    subst (λ (s : Stripe). IsJudgedBy (λ state. state ≡ s) g.N.Named.config (number s) class q j) (lent_state g at)
-    (subst (λ (k : Config). IsJudgedBy (λ state. state ≡ lent.state) k (number lent.state) class q j) c.requires.look.of follows) in
-    record { class = search rules; reached = reached; known = known }
-
-pub returns-in_err-judged-clause-judged : goal.returns-in_err-judged-clause-judged
-returns-in_err-judged-clause-judged g c = match_err _ _ c.in_err-judged.field-0.0 c.from_residual.result c.from_residual.ensures.1 (search rules)
+    let Follows : Config → Stripe → Judged → Type 0 = λ config s j. IsJudgedBy (λ state. state ≡ s) config (number s) class q j in
+    let known : (j : Judged) → Follows c.args.look.now.ask.config.now lent.state j → HasKeyOf (number lent.state) g.N.Named.config class q → IsKnown class lent.state q j =
+    λ j follows keyed.
+    known_judged _ _ _ c.stripe.invariant _ own.owner _ (own_is g c) _ _ _ c.requires.look.served _ _ c.catch_up_class.ensures.told c.tell.ensures.same _ c.tell.ensures.whole c.tell.ensures.grows
+    _ _ c.tell-2.ensures.same c.tell-2.ensures.told c.tell-2.ensures.grows _ lent.owner lent.seen (lent_is g c)
+    q j c.requires.look.may keyed (follows.0.done_is ∙ ap (λ (s : Stripe). done_of class (cache_now s) q) follows.1) in
+    match_more r
+    (λ j. Follows c.args.look.now.ask.config.now lent.state j × IsSettled class after lent.state c.settle-settled.new.stripe q j.done)
+    (IsJudgedUnder g.N.Named.config s q class after) _ (after ≡ with_room class after.room)
+    (λ j did. record {
+      class = subst (λ (s : Stripe). after ≡ class_with class (done_class_events class q (length s.history) j.done) after.room) (sym did.0.1) did.1.class;
+      reached = subst (λ (s : Stripe). Follows g.N.Named.config s j) (lent_state g c) (subst (λ (k : Config). Follows k lent.state j) c.requires.look.of did.0);
+      known = subst (λ (s : Stripe). HasKeyOf (number s) g.N.Named.config class q → IsKnown class s q j) (lent_state g c) (known j did.0);
+    })
+    (λ err. err.0) (if_ok_both r _ _ did.follows did.settled) did.err

@@ -1,11 +1,11 @@
-use Rattle.std.proofs.Common.{rules, ◌≡◌, ap, ◌∙◌, subst, sym}
+use Rattle.std.proofs.Common.{rules, ◌≡◌, ap, ◌∙◌, subst, sym, false}
 use Rattle.std.specs.Prelude.{MatchResult}
 use Rattle.mc_item.specs.declared.{config.Config.Config}
 use Rattle.mc_segment.specs.ClassState.{ClassView}
 use Rattle.mc_board.specs.declared.rule.Sight.{Sight}
 use Rattle.mc_pull.specs.Rounds.{rounds}
 use Rattle.mc_store.specs.{Callers.juggling_of, Calls.IsJuggleCut, Calls.IsJuggledWith, Reached.IsSeenState, Locked.HasBegunAs, Locked.IsLockedClass, Serving.class_side, Sides.ClassSide}
-use Rattle.mc_store.proofs.{CallerLemmas.begun_as_sees, GateLemmas.still_under, OwnEventLemmas.locked_gains, OwnEventLemmas.none_own, OwnEventLemmas.of_juggling}
+use Rattle.mc_store.proofs.{CallerLemmas.begun_as_sees, GateLemmas.still_under, OwnEventLemmas.locked_gains, OwnEventLemmas.of_juggling, OwnEventLemmas.suits_own}
 use Rattle.mc_store.proofs.OwnCallLemmas.{may_try_whole}
 use Rattle.mc_store.proofs.walking.juggle_under.Goals as goal
 
@@ -49,7 +49,7 @@ invariant_of-class g c =
     made.ensures.left.served.kept (ap (λ (v : ClassView). v.number) made.ensures.gains.grows.same)
     (begun_as_sees config old.sight new.sight turn.who turn.moment call made.ensures.left.walked.sees begun) made.ensures.left.walked.sees made.ensures.left.walked.gains
     (of_juggling old.class.number made.ensures.left.walked.gains.events turn.moment
-    (none_own turn.who turn.moment c.side.inside.state made.new.class made.ensures.left.walked.gains made.ensures.gains))
+    (suits_own false turn.who turn.moment c.side.inside.state made.new.class made.ensures.left.walked.gains made.ensures.gains))
 
 pub returns-clause-still : goal.returns-clause-still
 returns-clause-still g c =

@@ -1,16 +1,19 @@
-use Rattle.std.proofs.Common.{◌≡◌, ◌≤◌, ◌<◌, ℕ, List, ap, ◌∙◌, arith, length, refl, subst, sym}
+use Rattle.std.proofs.Common.{◌≡◌, ◌≤◌, ◌<◌, ℕ, List, true, ap, ◌∙◌, arith, length, refl, subst, sym}
+use Rattle.std.specs.Prelude.{MatchResult}
 use mathlib.Core.List.{IsPrefix}
-use Rattle.mc_item.specs.declared.{answer.Site.Site, event.Event.Event, item.ClassNo.ClassNo}
+use Rattle.mc_item.specs.declared.{answer.Site.Site, event.Event.Event, item.ClassNo.ClassNo, item.StripeNo.StripeNo}
 use Rattle.mc_segment.specs.ClassState.{ClassView}
 use Rattle.mc_stripe.specs.StripeState.{Stripe}
 use Rattle.mc_board.proofs.{PrefixLemmas.prefix_self, SeenLemmas.list_at_same}
 use Rattle.mc_board.specs.{Histories.Grows, Histories.list_at, Views.OwnerView, Views.SeenView}
-use Rattle.mc_pull.specs.{Lone.StripeGrows, Walker.walker_of}
+use Rattle.mc_pull.specs.{Lone.StripeGrows, Rounds.rounds, Walker.walker_of}
 use Rattle.mc_store.specs.{Accounts.stretch_of, Locked.HasBegunSearch, Locked.IsLockedClass, Locked.class_lock, Serving.IsShortFor, Serving.class_side}
+use Rattle.mc_store.specs.{Reached.IsSeenState, Searches.IsSearchBroken, Searches.IsSearchedWith}
 use Rattle.mc_store.specs.{Sides.ClassSide, Sides.StripeSide, Sides.class_told, Sides.stripe_sight, Sides.stripe_told, Trying.StillSearches}
 use Rattle.mc_store.specs.declared.locked.LockedStripe.TheInside.{Inside}
+use Rattle.mc_store.proofs.{EarnedRefusalLemmas.room_wider, ReachedLemmas.state_sees}
 use Rattle.mc_store.proofs.GateLemmas.{room_full, still_caught_up, still_searched}
-use Rattle.mc_store.proofs.{LockKeepsLemmas.grows_trans, SyncedStepLemmas.stripe_heard, SyncedStepLemmas.stripe_side, OwnEventLemmas.locked_commanded, OwnEventLemmas.suited_search}
+use Rattle.mc_store.proofs.{LockKeepsLemmas.grows_trans, SyncedStepLemmas.stripe_heard, SyncedStepLemmas.stripe_side, OwnEventLemmas.locked_commanded, OwnEventLemmas.suited_search, OwnEventLemmas.suits_own}
 use Rattle.mc_store.proofs.{AccountLemmas.still_longer, CallerLemmas.search_any, CallerLemmas.search_sees, OwnCallLemmas.served_whole, ShortHistoryLemmas.class_length}
 use Rattle.mc_store.proofs.walking.make_room_under.Given.{Over}
 use Rattle.mc_store.proofs.walking.make_room_under.Goals as goal
@@ -38,7 +41,7 @@ module _ (g : Over) (c : After-hear g) where
   learnt = grows_trans _ _ _ (subst (λ (v : SeenView). Grows v.sight c.learn.new.self.sight) c.compare.ensures.same.1 c.learn.ensures.theirs) c.hear.ensures.grows
 
   number : c.make_room_with-found.new.class.number ≡ c.side.inside.state.number
-  number = ap (λ (v : ClassView). v.number) c.make_room_with-found.ensures.class.same
+  number = ap (λ (v : ClassView). v.number) c.make_room_with-found.ensures.gains.grows.same
 
   -- it was told the whole history of the class
   told : list_at c.hear.new.self.sight.seen c.make_room_with-found.new.owner.lock ≡ class_told c.make_room_with-found.new.class.history
@@ -58,7 +61,26 @@ invariant_of-own g c =
 pub returns-clause-room : goal.returns-clause-room
 returns-clause-room g c =
     let at = goal.at.returns-clause-room g c in
-    rw (class_last g at.After-hear, sym (class_is g at.After-side)) c.make_room_with-found.ensures.room
+    let config = g.N.Named.config in
+    let turn = c.args.task.turn in
+    let side = c.side.inside in
+    let new = c.make_room_with-found.new in
+    let own = c.args.own.now in
+    let r = rounds side.state turn.who turn.moment config in
+    let number : StripeNo = record { 0 = own.stripe.site.stripe } in
+    let Here = IsSeenState config.stripes side.seen.sight new.seen.sight in
+    let There = IsSeenState config.stripes (stripe_sight own) c.hear.new.self.sight in
+    let first : Grows (stripe_sight own) side.seen.sight =
+    subst (λ (x : ClassSide). Grows (stripe_sight own) x.sight) (sym (c.side.view_is ∙ c.class.view_is)) c.learn_from.ensures.heard in
+    let more = state_sees config.stripes (stripe_sight own) side.seen.sight new.seen.sight c.hear.new.self.sight first (learnt g at.After-hear) in
+    let before = side.state.history in
+    let after = new.class.history in
+    let result = c.make_room_with-found.result in
+    let room : MatchResult result (IsSearchedWith r number Here before after) (λ fault. IsSearchBroken r number Here before after) =
+    rw (sym c.learn_from.ensures.same) c.make_room_with-found.ensures.room in
+    let wide : MatchResult result (IsSearchedWith r number There before after) (λ fault. IsSearchBroken r number There before after) =
+    room_wider r number Here There more before after result room in
+    rw (class_last g at.After-hear, sym (class_is g at.After-side)) wide
 
 pub returns-clause-leaves : goal.returns-clause-leaves
 returns-clause-leaves g c =
@@ -81,7 +103,7 @@ returns-clause-leaves g c =
     lock_is ∙ (c.own.invariant.lock_is ∙ (ap (λ (s : Stripe). s.site.stripe) (sym stripe_is) ∙ (ap (λ (t : Site). t.stripe) grows.site.site ∙ sym c.law.ensures.lock_is))) in
     let below : own.lock < config.stripes = rw c.law.ensures.lock_is c.law.ensures.of in
     let first : Grows own.sight side.seen.sight = subst (λ (x : ClassSide). Grows own.sight x.sight) (sym (c.side.view_is ∙ c.class.view_is)) c.learn_from.ensures.learnt in
-    let sees = grows_trans _ _ _ first (grows_trans _ _ _ found.ensures.left.searched.walked.sees (learnt g at.After-hear)) in
+    let sees = grows_trans _ _ _ first (grows_trans _ _ _ found.ensures.left.walked.sees (learnt g at.After-hear)) in
     let behind : IsPrefix (list_at new.seen.sight.seen last.lock) (stripe_told last.stripe.history) = rw (lock_is, stripe_is) c.compare.ensures.behind.seen in
     let start = length side.owner.history in
     let still = still_caught_up _ config turn.who turn.who new.owner new.seen side.state new.class c.args.caller.now new.caller c.catch_up_class.new.self
@@ -130,14 +152,15 @@ invariant_of-class g c =
     let turn = c.args.task.turn in
     let new = c.make_room_with-found.new in
     let left = c.make_room_with-found.ensures.left in
-    let walked = left.searched.walked in
+    let walked = left.walked in
     let old : ClassSide = class_side c.side.inside.owner c.side.inside.seen c.side.inside.state in
     let mid : ClassSide = class_side new.owner new.seen new.class in
     let last : c.hear.new.class ≡ mid = c.hear.ensures.class
     ∙ (ap (λ (x : SeenView). class_side c.catch_up_class.new.owner x new.class) (c.learn.ensures.other ∙ c.compare.ensures.same.1)
     ∙ ap (λ (o : OwnerView). class_side o new.seen new.class) c.catch_up_class.ensures.told) in
     let searched = search_sees _ old.sight mid.sight turn.who turn.moment walked.sees (begun g at.After-side) in
-    let suited = suited_search turn.who turn.moment searched.command searched.needs walked.gains.events walked.gains.each left.searched.none in
+    let suited = suited_search searched.command searched.needs walked.gains.events
+    (suits_own true turn.who turn.moment c.side.inside.state new.class walked.gains c.make_room_with-found.ensures.gains) in
     let kept = subst (IsLockedClass g.N.Named.board.table g.N.Named.config) (sym c.side.view_is) c.class.invariant in
     subst (IsLockedClass g.N.Named.board.table g.N.Named.config) (sym last)
     (locked_commanded _ _ old mid turn.who turn.moment kept left.served.kept (number g at.After-hear) (record { command = searched.command; begun = searched.begun }) walked.sees (walked.gains, suited))
@@ -145,4 +168,4 @@ invariant_of-class g c =
 pub returns-clause-begun : goal.returns-clause-begun
 returns-clause-begun g c =
     let at = goal.at.returns-clause-begun g c in
-    search_sees _ _ _ _ _ (grows_trans _ _ _ c.make_room_with-found.ensures.left.searched.walked.sees (learnt g at.After-hear)) (begun g at.After-side)
+    search_sees _ _ _ _ _ (grows_trans _ _ _ c.make_room_with-found.ensures.left.walked.sees (learnt g at.After-hear)) (begun g at.After-side)

@@ -9,7 +9,7 @@ invariant_of-world c =
     let before = c.args.world.now in
     record {
       sound = record {
-        class = class_later before.config before.class c.make_room.new.class before.sound.class c.make_room.ensures.grows;
+        class = class_later before.config before.class c.make_room.new.class before.sound.class c.make_room.ensures.gains.grows;
         stripe = subst (Serves 0 c.make_room.new.gate.stripe.now) c.context-context.ensures.config c.make_room.ensures.gate.serves;
       };
     }

@@ -9,7 +9,8 @@ use Rattle.mc_store.specs.Reached.{IsSeenState}
 use Rattle.mc_pull.specs.{Lone.StripeGrows, Looks.IsJudgedBy, Question.HasKeyOf, Question.question_of, Walker.walker_of}
 use Rattle.mc_segment.specs.ClassState.{ClassView}
 use Rattle.mc_store.proofs.VisitedStripeLemmas.{known_at, looked_away, looked_both, looked_here, same_after}
-use Rattle.mc_store.proofs.OwnEventLemmas.{searches_failed, searches_judged, searches_visited}
+use Rattle.mc_store.proofs.OwnEventLemmas.{gains_judged, gains_none, walks_on}
+use Rattle.mc_store.proofs.ReachedLemmas.{answers_both, answers_none, answers_one}
 use Rattle.mc_store.proofs.gates.HoldingGate.visit.Goals as goal
 
 pub judge-requires-clause-look : goal.judge-requires-clause-look
@@ -80,11 +81,13 @@ returns-then-not-lends-clause-gate g c =
                   c.visit.new.look.class.now c.visit.new.look.done c.visit.result
                   c.requires.look.judge keyed (c.lends.ensures.other c.if-not-lends.true was.0.0 was.0.1) made.answer made.err),
             ),
-        searches_visited _ _ look.ask.config.now c.args.stripe _ _ q _ _ _ _ look.class.now c.visit.new.look.class.now c.visit.new.look.done c.visit.result kept.2 same.2.sees made.answer made.err,
+        walks_on look.ask.who look.ask.moment _ _ _ _ _ _ kept.2 same.2.sees same.2.gains,
         no_shorter_both (length first.others.owner.now.history) start (length c.visit.new.self.owner.now.history) kept.3 same.3,
         still_on g.N.Named.config look.class.now.number (length first.others.owner.now.history) start look.ask.who.turn first.others.seen.now.sight me.others.seen.now.sight
             c.visit.new.self.seen.now.sight begun look.class.now.history c.visit.new.look.class.now.history first.others.caller.now me.others.caller.now c.visit.new.self.caller.now
             kept.3 kept.4 same.4,
+        answers_both g.N.Named.config.stripes first.others.seen.now.sight me.others.seen.now.sight c.visit.new.self.seen.now.sight first.others.answers.now me.others.answers.now
+            c.visit.new.self.answers.now kept.2.sees same.2.sees kept.5 same.5,
       );
     }
 
@@ -102,7 +105,7 @@ returns-in_err-judged-clause-gate g c =
     subst
     (λ (v : SeenView). StillWalksFrom g.N.Named.config look.class.now.number (length me.others.owner.now.history) look.ask.who.turn v.sight c.judge.new.seen.sight look.class.now.history
     c.judge.new.look.class.now.history me.others.caller.now c.judge.new.caller)
-    c.learn.ensures.same c.judge.ensures.still in
+    c.learn.ensures.same c.judge.ensures.still.1 in
     let grows : StripeGrows w s c.judge.new.stripe.stripe = subst (λ (x : Stripe). StripeGrows w x c.judge.new.stripe.stripe) (ap (λ (x : StripeSide). x.stripe) c.learn.ensures.stripe) left.stripe in
     record {
       holds = search rules;
@@ -110,7 +113,7 @@ returns-in_err-judged-clause-gate g c =
         gate.0,
         left.served,
         begun_sees g.N.Named.config me.others.seen.now.sight c.judge.new.seen.sight me.others.who me.others.moment sees gate.2,
-        gate.3 ∙ sym c.judge.ensures.still.number_is,
+        gate.3 ∙ sym c.judge.ensures.still.1.number_is,
       );
       kept = λ first begun kept. (
         grew_on w _ _ _ kept.0 grows,
@@ -120,11 +123,14 @@ returns-in_err-judged-clause-gate g c =
               looked_both g.N.Named.config.stripes w _ _ _ _ _ _ _ _ was.1 kept.0
                   (same_after look.class.now q g.N.Named.config.stripes w s me.others.answers.now me.others.answers.now c.judge.new.look.class.now c.in_err-judged.ensures.judged refl),
             ),
-        searches_failed look.ask.who look.ask.moment _ _ _ _ _ _ kept.2 sees (ap (λ (v : ClassView). v.history) c.in_err-judged.ensures.judged),
-        no_shorter_both (length first.others.owner.now.history) (length me.others.owner.now.history) (length c.judge.new.owner.history) kept.3 c.judge.ensures.owner,
+        walks_on look.ask.who look.ask.moment _ _ _ _ _ _ kept.2 sees
+            (gains_none look.ask.who look.ask.moment look.class.now.history c.judge.new.look.class.now.history (ap (λ (v : ClassView). v.history) c.in_err-judged.ensures.judged)),
+        no_shorter_both (length first.others.owner.now.history) (length me.others.owner.now.history) (length c.judge.new.owner.history) kept.3 c.judge.ensures.still.0,
         still_on g.N.Named.config look.class.now.number (length first.others.owner.now.history) (length me.others.owner.now.history) look.ask.who.turn first.others.seen.now.sight
             me.others.seen.now.sight c.judge.new.seen.sight begun look.class.now.history c.judge.new.look.class.now.history first.others.caller.now me.others.caller.now c.judge.new.caller
             kept.3 kept.4 still,
+        answers_both g.N.Named.config.stripes first.others.seen.now.sight me.others.seen.now.sight c.judge.new.seen.sight first.others.answers.now me.others.answers.now me.others.answers.now
+            kept.2.sees sees kept.5 (answers_none g.N.Named.config.stripes me.others.seen.now.sight c.judge.new.seen.sight me.others.answers.now me.others.answers.now refl),
       );
     }
 
@@ -143,7 +149,9 @@ returns-clause-gate g c =
     subst
     (λ (v : SeenView). StillWalksFrom g.N.Named.config look.class.now.number (length me.others.owner.now.history) look.ask.who.turn v.sight c.judge.new.seen.sight look.class.now.history
     c.judge.new.look.class.now.history me.others.caller.now c.judge.new.caller)
-    c.learn.ensures.same c.judge.ensures.still in
+    c.learn.ensures.same c.judge.ensures.still.1 in
+    let state =
+    subst (λ (v : SeenView). IsSeenState g.N.Named.config.stripes v.sight c.judge.new.seen.sight c.learn.new.self.stripe) c.learn.ensures.same left.state in
     let learnt : c.learn.new.self.stripe ≡ s = ap (λ (x : StripeSide). x.stripe) c.learn.ensures.stripe in
     let grows : StripeGrows w s c.judge.new.stripe.stripe = subst (λ (x : Stripe). StripeGrows w x c.judge.new.stripe.stripe) learnt left.stripe in
     let known = known_at look.class.now q g.N.Named.config look.ask.config.now s c.learn.new.self.stripe c.args.stripe c.in_ok-judged.judged gate.0
@@ -154,7 +162,7 @@ returns-clause-gate g c =
         gate.0,
         left.served,
         begun_sees g.N.Named.config me.others.seen.now.sight c.judge.new.seen.sight me.others.who me.others.moment sees gate.2,
-        gate.3 ∙ sym c.judge.ensures.still.number_is,
+        gate.3 ∙ sym c.judge.ensures.still.1.number_is,
       );
       kept = λ first begun kept. (
         grew_on w _ _ _ kept.0 grows,
@@ -165,10 +173,14 @@ returns-clause-gate g c =
                   (looked_here look.class.now q g.N.Named.config s c.args.stripe me.others.answers.now c.push.new.self
                   c.judge.new.look.class.now.history c.in_ok-judged.judged known c.push.ensures (ap (λ (v : ClassView). v.history) made.class)),
             ),
-        searches_judged q _ _ _ _ look.class.now c.judge.new.look.class.now (Some c.in_ok-judged.judged) kept.2 sees made.class,
-        no_shorter_both (length first.others.owner.now.history) (length me.others.owner.now.history) (length c.judge.new.owner.history) kept.3 c.judge.ensures.owner,
+        walks_on q.who q.moment _ _ _ _ _ _ kept.2 sees (gains_judged look.class.now c.judge.new.look.class.now q (Some c.in_ok-judged.judged) made.class),
+        no_shorter_both (length first.others.owner.now.history) (length me.others.owner.now.history) (length c.judge.new.owner.history) kept.3 c.judge.ensures.still.0,
         still_on g.N.Named.config look.class.now.number (length first.others.owner.now.history) (length me.others.owner.now.history) look.ask.who.turn first.others.seen.now.sight
             me.others.seen.now.sight c.judge.new.seen.sight begun look.class.now.history c.judge.new.look.class.now.history first.others.caller.now me.others.caller.now c.judge.new.caller
             kept.3 kept.4 still,
+        answers_both g.N.Named.config.stripes first.others.seen.now.sight me.others.seen.now.sight c.judge.new.seen.sight first.others.answers.now me.others.answers.now c.push.new.self
+            kept.2.sees sees kept.5
+            (answers_one g.N.Named.config.stripes me.others.seen.now.sight c.judge.new.seen.sight me.others.answers.now c.push.new.self c.args.stripe (Some c.in_ok-judged.judged) c.push.ensures
+            (subst (IsSeenState g.N.Named.config.stripes me.others.seen.now.sight c.judge.new.seen.sight) (sym made.reached.1) state)),
       );
     }

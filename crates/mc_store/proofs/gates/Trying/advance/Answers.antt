@@ -1,4 +1,4 @@
-use Rattle.std.proofs.Common.{drop, length, refl, sym, ap, ◌∙◌, subst}
+use Rattle.std.proofs.Common.{drop, length, sym, ap, ◌∙◌, subst}
 use Rattle.mc_pull.specs.Rounds.{rounds_by}
 use Rattle.mc_store.specs.{Hits.IsAdvancedWith, Reached.IsSeenState}
 use Rattle.mc_store.proofs.{AccountLemmas.still_anywhere, GateLemmas.ok_more, GateLemmas.served_asked, GateLemmas.still_caught_up, KeptWalkLemmas.kept_first, ReachedLemmas.gained_states}

@@ -1,4 +1,4 @@
-use Rattle.std.proofs.Common.{drop, length, refl, rules, sym, ap, ◌∙◌, subst}
+use Rattle.std.proofs.Common.{drop, length, rules, sym, ap, ◌∙◌, subst}
 use Rattle.mc_store.proofs.{CrawledLemmas.counts_one, CrawledLemmas.match_on, SeenStripeLemmas.on_err_more}
 use Rattle.mc_store.proofs.{GateLemmas.served_asked, GateLemmas.still_caught_up, KeptWalkLemmas.kept_first}
 use Rattle.std.specs.Prelude.{OnOk}

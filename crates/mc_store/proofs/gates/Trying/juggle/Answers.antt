@@ -1,4 +1,4 @@
-use Rattle.std.proofs.Common.{drop, length, refl, sym, ap, ◌∙◌, subst}
+use Rattle.std.proofs.Common.{drop, length, sym, ap, ◌∙◌, subst}
 use Rattle.mc_item.specs.declared.fault.Fault.{Fault}
 use Rattle.mc_pull.specs.Rounds.{rounds}
 use Rattle.mc_store.proofs.{AccountLemmas.still_anywhere, KeptWalkLemmas.kept_first}

@@ -62,7 +62,7 @@ returns-in_err-judged-clause-gate g c =
     subst
     (λ (v : SeenView). StillWalksFrom g.N.Named.config look.class.now.number (length me.owner.now.history) look.ask.who.turn v.sight c.judge.new.seen.sight look.class.now.history
     c.judge.new.look.class.now.history me.caller.now c.judge.new.caller)
-    c.learn.ensures.same c.judge.ensures.still in
+    c.learn.ensures.same c.judge.ensures.still.1 in
     let same = ap (λ (v : ClassView). v.history) c.in_err-judged.ensures.judged in
     record {
       holds = search rules;
@@ -70,13 +70,13 @@ returns-in_err-judged-clause-gate g c =
         gate.0,
         left.served,
         begun_sees g.N.Named.config me.seen.now.sight c.judge.new.seen.sight me.who me.moment sees gate.2,
-        gate.3 ∙ sym c.judge.ensures.still.number_is,
+        gate.3 ∙ sym c.judge.ensures.still.1.number_is,
       );
       kept = λ first begun kept. (
         kept.0,
         kept.1,
         walks_on look.ask.who look.ask.moment _ _ _ _ _ _ kept.2 sees (gains_none look.ask.who look.ask.moment look.class.now.history c.judge.new.look.class.now.history same),
-        no_shorter_both (length first.owner.now.history) (length me.owner.now.history) (length c.judge.new.owner.history) kept.3 c.judge.ensures.owner,
+        no_shorter_both (length first.owner.now.history) (length me.owner.now.history) (length c.judge.new.owner.history) kept.3 c.judge.ensures.still.0,
         still_on g.N.Named.config look.class.now.number (length first.owner.now.history) (length me.owner.now.history) look.ask.who.turn first.seen.now.sight me.seen.now.sight c.judge.new.seen.sight
             begun look.class.now.history c.judge.new.look.class.now.history first.caller.now me.caller.now c.judge.new.caller kept.3 kept.4 still,
         answers_both g.N.Named.config.stripes first.seen.now.sight me.seen.now.sight c.judge.new.seen.sight first.answers.now me.answers.now me.answers.now kept.2.sees sees kept.5
@@ -95,7 +95,7 @@ returns-clause-gate g c =
     subst
     (λ (v : SeenView). StillWalksFrom g.N.Named.config look.class.now.number (length me.owner.now.history) look.ask.who.turn v.sight c.judge.new.seen.sight look.class.now.history
     c.judge.new.look.class.now.history me.caller.now c.judge.new.caller)
-    c.learn.ensures.same c.judge.ensures.still in
+    c.learn.ensures.same c.judge.ensures.still.1 in
     let gains = gains_judged look.class.now c.judge.new.look.class.now (question_of look.ask) (Some c.in_ok-judged.judged) c.in_ok-judged.ensures.judged.class in
     let state =
     subst (λ (v : SeenView). IsSeenState g.N.Named.config.stripes v.sight c.judge.new.seen.sight c.learn.new.self.stripe) c.learn.ensures.same left.state in
@@ -105,13 +105,13 @@ returns-clause-gate g c =
         gate.0,
         left.served,
         begun_sees g.N.Named.config me.seen.now.sight c.judge.new.seen.sight me.who me.moment sees gate.2,
-        gate.3 ∙ sym c.judge.ensures.still.number_is,
+        gate.3 ∙ sym c.judge.ensures.still.1.number_is,
       );
       kept = λ first begun kept. (
         kept.0,
         kept.1,
         walks_on look.ask.who look.ask.moment _ _ _ _ _ _ kept.2 sees gains,
-        no_shorter_both (length first.owner.now.history) (length me.owner.now.history) (length c.judge.new.owner.history) kept.3 c.judge.ensures.owner,
+        no_shorter_both (length first.owner.now.history) (length me.owner.now.history) (length c.judge.new.owner.history) kept.3 c.judge.ensures.still.0,
         still_on g.N.Named.config look.class.now.number (length first.owner.now.history) (length me.owner.now.history) look.ask.who.turn first.seen.now.sight me.seen.now.sight c.judge.new.seen.sight
             begun look.class.now.history c.judge.new.look.class.now.history first.caller.now me.caller.now c.judge.new.caller kept.3 kept.4 still,
         answers_both g.N.Named.config.stripes first.seen.now.sight me.seen.now.sight c.judge.new.seen.sight first.answers.now me.answers.now c.push-2.new.self kept.2.sees sees kept.5

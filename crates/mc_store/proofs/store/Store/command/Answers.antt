@@ -1,7 +1,7 @@
 use Rattle.std.proofs.Common.{◌≡◌, ◌∙◌, ◌⊎◌, ◌<◌, ◌+◌, ◌++◌, ◌∷◌, [], refl, ℕ, List, Result, ap, inr, length, subst, sym}
 use Rattle.std.specs.Prelude.{IfSome, Option}
 use Rattle.mc_item.specs.{Command.key_of, Measure.stripe_of}
-use Rattle.mc_item.specs.declared.{config.Config.Config, fault.Fault.Fault, item.Link.Link, item.StripeNo.StripeNo, item.Who.Who, reply.Reply.Reply}
+use Rattle.mc_item.specs.declared.{config.Config.Config, fault.Fault.Fault, item.Link.Link, item.StripeNo.StripeNo, item.Who.Who, reply.Reply.Reply, stripe_event.StripeEvent.StripeEvent}
 use Rattle.mc_evidence.specs.Setting.{IsClass}
 use Rattle.mc_item.specs.declared.call_event.CallEvent.{CallEvent}
 use Rattle.mc_hits.specs.{Rule.AreBefore, Views.HandsView}
@@ -21,7 +21,8 @@ use Rattle.mc_store.proofs.store.Store.command.Goals.{After-compare, After-share
 own_is : (g : Over) (c : After-compare g) → stripe_of (key_of c.args.command) g.N.Named.config.stripes ≡ record { 0 = c.compare.new.self.stripe.site.stripe }
 own_is g c =
     let number : c.stripe_of-number.result ≡ record { 0 = c.compare.new.self.stripe.site.stripe } = ap (λ (n : ℕ). record { 0 = n })
-    (sym (ap (λ (x : StripeSide). x.stripe.site.stripe) (c.compare.ensures.same.0 ∙ (c.own.view_is ∙ (c.in_ok-who.ensures.stripe ∙ c.deref_mut-own.ensures.value))) ∙ c.lock_stripe-guard.ensures)) in
+    (sym (ap (λ (x : StripeSide). x.stripe.site.stripe) (c.compare.ensures.same.0 ∙ c.own.view_is) ∙ (ap (λ (x : StripeSide). x.stripe.site.stripe) c.learn.ensures.stripe
+    ∙ (ap (λ (x : StripeSide). x.stripe.site.stripe) (c.in_ok-who.ensures.stripe ∙ c.deref_mut-own.ensures.value) ∙ c.lock_stripe-guard.ensures)))) in
     ap (λ (key : List ℕ). stripe_of key g.N.Named.config.stripes) (sym c.key.ensures)
     ∙ (ap (λ (config : Config). stripe_of c.key.result.now config.stripes) (sym c.self.invariant.1) ∙ (sym c.stripe_of-number.ensures ∙ number))
 
@@ -34,6 +35,10 @@ called g c =
           (asked_now c.args.pass.now c.take_turn_on.new.self c.args.command c.in_ok-who.who c.args.moment took.turn took.who c.in_ok-who.ensures.turns);
       early = c.requires.early;
     }
+
+-- its token has seen what the pass had seen
+told_sight : (g : Over) (c : After-compare g) → c.learn.new.seen.sight ≡ c.args.pass.now.sight
+told_sight g c = ap (λ (v : SeenView). v.sight) c.learn.ensures.same ∙ ap (λ (p : PassView). p.sight) (c.pass.view_is ∙ c.in_ok-who.ensures.took.turn)
 
 pub answer_for-replied-requires-clause-called : goal.answer_for-replied-requires-clause-called
 answer_for-replied-requires-clause-called g c = called g (goal.at.answer_for-replied-requires-clause-called g c).After-compare
@@ -74,14 +79,17 @@ shared g c =
     let pass = c.pass.view_is ∙ c.in_ok-who.ensures.took.turn in
     let old_kept = subst (IsLockedStripe g.N.Named.board.table config) (sym c.compare.ensures.same.0) c.own.invariant in
     let new_kept = subst (IsLockedStripe g.N.Named.board.table config) c.own-2.view_is c.own-2.invariant in
-    let seen = subst (λ (x : Sight). HasSeen (stripe_told c.compare.new.self.stripe.history) x c.compare.new.self.lock) (ap (λ (p : PassView). p.sight) pass)
-    (subst (λ (s : StripeSide). HasSeen (stripe_told s.stripe.history) c.pass.inside.seen.sight s.lock) (sym c.compare.ensures.same.0) c.compare.ensures.behind.seen) in
+    let seen = subst (λ (x : Sight). HasSeen (stripe_told c.compare.new.self.stripe.history) x c.compare.new.self.lock) (told_sight g at.After-compare)
+    (subst (λ (s : StripeSide). HasSeen (stripe_told s.stripe.history) c.learn.new.seen.sight s.lock) (sym c.compare.ensures.same.0) c.compare.ensures.behind.seen) in
+    let learnt = subst (λ (s : StripeSide). Grows old.sight s.sight) (sym (c.compare.ensures.same.0 ∙ c.own.view_is))
+    (subst (λ (x : Sight). Grows x c.learn.new.self.sight) (ap (λ (p : PassView). p.sight) pass) c.learn.ensures.learnt) in
     let told = subst (λ (s : StripeSide). list_at after.seen s.lock ≡ stripe_told s.stripe.history) c.own-2.view_is c.share.ensures.told in
     let grows = subst (λ (s : StripeSide). Grows s.sight after) c.own-2.view_is c.share.ensures.all in
-    let first = subst (λ (s : StripeSide). HasNoneOf (next_who old) s.stripe.history)
-    (sym (c.compare.ensures.same.0 ∙ (c.own.view_is ∙ c.in_ok-who.ensures.stripe))) c.in_ok-who.ensures.first in
+    let first = subst (λ (h : List StripeEvent). HasNoneOf (next_who old) h)
+    (sym (ap (λ (s : StripeSide). s.stripe.history) (c.compare.ensures.same.0 ∙ c.own.view_is) ∙ (ap (λ (s : StripeSide). s.stripe.history) c.learn.ensures.stripe
+    ∙ ap (λ (s : StripeSide). s.stripe.history) c.in_ok-who.ensures.stripe))) c.in_ok-who.ensures.first in
     subst (λ (x : Result Reply Fault). IsShared config (stripe_of (key_of c.args.command) config.stripes).0 old (pass_then g c) c.args.command c.args.moment x) (sym c.reply_of.ensures)
-    (shared_by old old_kept new_kept number seen told grows r c.offer.new.hands (ends g at.After-share) c.in_ok-who.ensures.took.who (ap (λ (p : PassView). p.calls) pass)
+    (shared_by old old_kept new_kept number seen told learnt grows r c.offer.new.hands (ends g at.After-share) c.in_ok-who.ensures.took.who (ap (λ (p : PassView). p.calls) pass)
     (ap (λ (p : PassView). p.made) pass) first)
 
 pub returns-clause-replied : goal.returns-clause-replied
@@ -92,8 +100,9 @@ returns-clause-cut g c = if_err_more c.reply_of.result _ _ (λ fault cut. inr cu
 
 pub returns-clause-grows : goal.returns-clause-grows
 returns-clause-grows g c =
-    let seen = ap (λ p. p.seen) (rest g (goal.at.returns-clause-grows g c).After-share) ∙ c.compare.ensures.same.1 in
-    let sight = ap (λ (v : SeenView). v.sight) seen ∙ ap (λ (p : PassView). p.sight) (c.pass.view_is ∙ c.in_ok-who.ensures.took.turn) in
+    let at = goal.at.returns-clause-grows g c in
+    let seen = ap (λ p. p.seen) (rest g at.After-share) ∙ c.compare.ensures.same.1 in
+    let sight = ap (λ (v : SeenView). v.sight) seen ∙ told_sight g at.After-compare in
     subst (λ (x : Sight). IsLater x c.share.new.seen.sight) sight c.share.ensures.grows
 
 pub returns-clause-caller : goal.returns-clause-caller
@@ -142,8 +151,10 @@ returns-clause-offers g c =
     let pass = c.pass.view_is ∙ c.in_ok-who.ensures.took.turn in
     let old_kept = subst (IsLockedStripe g.N.Named.board.table config) (sym c.compare.ensures.same.0) c.own.invariant in
     let new_kept = subst (IsLockedStripe g.N.Named.board.table config) c.own-2.view_is c.own-2.invariant in
-    let seen = subst (λ (x : Sight). HasSeen (stripe_told c.compare.new.self.stripe.history) x c.compare.new.self.lock) (ap (λ (p : PassView). p.sight) pass)
-    (subst (λ (s : StripeSide). HasSeen (stripe_told s.stripe.history) c.pass.inside.seen.sight s.lock) (sym c.compare.ensures.same.0) c.compare.ensures.behind.seen) in
+    let seen = subst (λ (x : Sight). HasSeen (stripe_told c.compare.new.self.stripe.history) x c.compare.new.self.lock) (told_sight g at.After-compare)
+    (subst (λ (s : StripeSide). HasSeen (stripe_told s.stripe.history) c.learn.new.seen.sight s.lock) (sym c.compare.ensures.same.0) c.compare.ensures.behind.seen) in
+    let learnt = subst (λ (s : StripeSide). Grows old.sight s.sight) (sym (c.compare.ensures.same.0 ∙ c.own.view_is))
+    (subst (λ (x : Sight). Grows x c.learn.new.self.sight) (ap (λ (p : PassView). p.sight) pass) c.learn.ensures.learnt) in
     let told = subst (λ (s : StripeSide). list_at after.seen s.lock ≡ stripe_told s.stripe.history) c.own-2.view_is c.share.ensures.told in
     let grows = subst (λ (s : StripeSide). Grows s.sight after) c.own-2.view_is c.share.ensures.all in
     let mine : old.hands.caller ≡ who.caller =
@@ -152,7 +163,7 @@ returns-clause-offers g c =
     (subst (λ (o : Option Link). OffersOne who.turn o c.match-class_for.pass-inside.hands c.offer.new.hands) c.woken_of.ensures c.offer.ensures.offers) in
     subst (λ (w : Who). (c.offer.new.hands ≡ old.hands)
     ⊎ IsOffered config (stripe_of (key_of c.args.command) config.stripes).0 after w c.args.command c.args.moment old.hands c.offer.new.hands) c.in_ok-who.ensures.took.who
-    (offered_by old old_kept new_kept number seen told grows r (ends g at.After-share) old.hands c.offer.new.hands mine offers)
+    (offered_by old old_kept new_kept number seen told learnt grows r (ends g at.After-share) old.hands c.offer.new.hands mine offers)
 
 pub invariant_of-pass : goal.invariant_of-pass
 invariant_of-pass g c =
@@ -169,13 +180,13 @@ invariant_of-pass g c =
     let same = c.offer.ensures.same in
     let next : c.in_ok-who.who.turn + 1 ≡ length (turns_of c.match-class_for.pass-inside.caller.calls) = ap (λ (w : Who). w.turn + 1) c.in_ok-who.ensures.took.who ∙ sym turns in
     let below : (stripe_of (key_of c.args.command) config.stripes).0 < config.stripes = subst (λ (n : StripeNo). n.0 < config.stripes) (sym (own_is g place.After-compare)) (below_stripes g place.After-compare) in
-    let seen = ap (λ (v : SeenView). v.sight) (ap (λ p. p.seen) (rest g at) ∙ c.compare.ensures.same.1) ∙ ap (λ (p : PassView). p.sight) took in
+    let seen = ap (λ (v : SeenView). v.sight) (ap (λ p. p.seen) (rest g at) ∙ c.compare.ensures.same.1) ∙ told_sight g place.After-compare in
     let grows = subst (λ (x : Sight). Grows x c.share.new.seen.sight) seen c.share.ensures.grows.seen in
     let number : c.match-class_for.pass-inside.caller.number ≡ old.caller = ended.number ∙ ap (λ (p : PassView). p.caller) took in
     let begun : ArePlaced config (record { number = old.caller; calls = old.calls ++ asked_for c.args.command c.args.moment ∷ []; made = old.made }) (stripes_seen (list_at old.sight.seen)) =
     subst (λ (p : PassView). ArePlaced config (caller_of p) (stripes_seen (list_at p.sight.seen))) took i.1 in
     let behind = shared g c in (
-      c.share.ensures.board ∙ (ap (λ p. p.seen.board) (rest g at) ∙ (ap (λ (v : SeenView). v.board) c.compare.ensures.same.1 ∙ i.0)),
+      c.share.ensures.board ∙ (ap (λ p. p.seen.board) (rest g at) ∙ (ap (λ (v : SeenView). v.board) (c.compare.ensures.same.1 ∙ c.learn.ensures.same) ∙ i.0)),
       placed_shared config (stripe_of (key_of c.args.command) config.stripes).0 old (pass_then g c) c.args.command c.args.moment below number c.in_ok-who.ensures.turns grows begun c.reply_of.result
           behind.replied behind.cut,
       ap (λ (h : HandsView). h.tables) same ∙ (ap (λ p. p.hands.tables) (rest g at) ∙ i.2),
