@@ -7,7 +7,7 @@ use crate::acts::Act::{
 use crate::asking::Asked::{Delete, Gat, Get, Incr, Store, Touch};
 use crate::plain::Plain;
 use crate::readers::Piece::{self, Given, Lent};
-use crate::stores::Called::{self, Command};
+use crate::stores::Called::{self, Command, Misses};
 use Call::{
     CopyCommand, CopyKey, FoundText, Make, OpenStore, OpenTokens, Read, Shared, Split, Value, World,
 };
@@ -107,10 +107,14 @@ const FULL_SHARED: &[Called] = &[
     Command(b'e', Store(Set, "1", 0)),
 ];
 
-// Two items, one of which is dead at 1001.
+// An active item. The stripe's next event takes memory for a second piece of 4,096 events.
+const ACTIVE_SHARED: &[Called] = &[SET_SHARED, GET_SHARED, GET_SHARED, Misses(4_093)];
+
+// Two items that are dead at 1001. The stripe's second event from now on takes memory.
 const DYING_SHARED: &[Called] = &[
     Command(b'a', Store(Set, "1", 1)),
-    Command(b'b', Store(Set, "1", 0)),
+    Command(b'b', Store(Set, "1", 1)),
+    Misses(4_093),
 ];
 
 /// Returns the cases, each under its name.
@@ -166,7 +170,7 @@ static CASES: [(&str, Call); 63] = [
     ("settle_of_a_tail", World(IN_COLD, JudgeTail)),
     ("pull_tail", World(TWO_IN_COLD, Pull)),
     ("make_room", World(IN_HOT, MakeRoom)),
-    ("juggle", World(IN_HOT, Juggle)),
+    ("juggle", World(ACTIVE, Juggle)),
     ("advance", World(ACTIVE_IN_COLD, Advance)),
     ("snapshot", World(STORED, TakeLinks)),
     ("crawl_one", World(DEAD, Crawl)),
@@ -182,7 +186,7 @@ static CASES: [(&str, Call); 63] = [
     ),
     ("store_append", Shared(&[SET_SHARED], APPEND_SHARED)),
     ("store_set_for_a_chunk", Shared(FULL_SHARED, SET_SHARED)),
-    ("store_juggle", Shared(FULL_SHARED, Called::Juggle)),
+    ("store_juggle", Shared(ACTIVE_SHARED, Called::Juggle)),
     ("store_crawl", Shared(DYING_SHARED, Called::Crawl)),
     ("store_chunks", Shared(&[], Called::Limit)),
 ];

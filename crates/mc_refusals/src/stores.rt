@@ -19,6 +19,8 @@ use std::sync::Wait;
 pub(crate) enum Called {
     /// A command at 1000 on the key of 31 times this letter.
     Command(u8, Asked),
+    /// So many gets of a key without an item.
+    Misses(u32),
     Juggle,
     Crawl,
     /// The limit becomes two chunks.
@@ -58,6 +60,22 @@ fn ask<N: Named>(
     end_of(reply)
 }
 
+// Gets a key without an item so many times.
+fn miss<N: Named>(
+    rt: &impl Wait,
+    store: &Store<N>,
+    pass: &mut Pass<N>,
+    count: u32,
+    marks: Marks,
+) -> End {
+    for _ in 0..count {
+        if ask(rt, store, pass, b'z', Asked::Get, marks) != End::Made {
+            return End::Other;
+        }
+    }
+    End::Made
+}
+
 fn work<N: Named>(
     rt: &impl Wait,
     store: &Store<N>,
@@ -71,7 +89,7 @@ fn work<N: Named>(
         Called::Juggle => end_of(store.juggle(rt, pass, FIRST, LATER)),
         Called::Crawl => end_of(store.crawl(alloc, rt, pass, FIRST, LATER)),
         Called::Limit => end_of(store.chunks(rt, pass, FIRST, 2)),
-        Called::Command(_, _) => End::Other,
+        Called::Command(_, _) | Called::Misses(_) => End::Other,
     }
 }
 
@@ -84,13 +102,16 @@ fn make<N: Named>(
 ) -> End
     requires class { 0 < length N.config.sizes }
 {
-    if let Called::Command(letter, asked) = called {
-        return ask(rt, store, pass, letter, asked, marks);
+    match called {
+        Called::Command(letter, asked) => ask(rt, store, pass, letter, asked, marks),
+        Called::Misses(count) => miss(rt, store, pass, count, marks),
+        _ => {
+            marks.begin();
+            let end = work(rt, store, pass, called, marks.alloc);
+            marks.end();
+            end
+        }
     }
-    marks.begin();
-    let end = work(rt, store, pass, called, marks.alloc);
-    marks.end();
-    end
 }
 
 // Makes calls, and returns how the last one ended. That one has the marks, if they are on.
