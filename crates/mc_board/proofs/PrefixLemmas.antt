@@ -36,16 +36,6 @@ prefix_rest (x ∷ xs) (y ∷ ys) p =
 pub prefix_take : {A : Type 0} (n : ℕ) (xs ys : List A) → IsPrefix xs ys → n ≤ length xs → take n ys ≡ take n xs
 prefix_take n xs ys p few = ap (take n) (sym p.1) ∙ take-append-le n xs p.0 few
 
--- a beginning that is as long is the whole list
-pub prefix_whole : {A : Type 0} (xs ys : List A) → IsPrefix xs ys → length ys ≤ length xs → xs ≡ ys
-prefix_whole [] [] p le = refl
-prefix_whole [] (y ∷ ys) p le = absurd (omega (arith, le))
-prefix_whole (x ∷ xs) [] p le = absurd (cc (p.1))
-prefix_whole (x ∷ xs) (y ∷ ys) p le =
-    let heads : x ≡ y = cc (p.1) in
-    let tails : xs ≡ ys = prefix_whole xs ys (p.0, cc (p.1)) (omega (arith, le)) in
-    cc (heads, tails)
-
 pub prefix_length : {A : Type 0} (xs ys : List A) → IsPrefix xs ys → length xs ≤ length ys
 prefix_length xs ys p = omega (arith, sym (ap length p.1) ∙ length-append xs p.0)
 

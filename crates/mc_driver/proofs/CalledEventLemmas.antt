@@ -1,16 +1,12 @@
 -- The turns of a caller's history, and the calls that they are for.
-use Rattle.std.proofs.Common.{◌≡◌, ◌⊎◌, ◌≤◌, ℕ, zero, suc, List, [], ◌∷◌, ◌++◌, Some, Result, Ok, Err, refl, sym, ap, ◌∙◌, subst, inl, inr, ⊎_elim, arith, length, append-nil, None, map}
-use Rattle.std.specs.Prelude.{IfErr, IsErrOf, OnOk, slice_get}
+use Rattle.std.proofs.Common.{◌≡◌, ◌⊎◌, ℕ, zero, suc, List, [], ◌∷◌, ◌++◌, Some, Result, Ok, Err, refl, sym, ap, ◌∙◌, subst, inl, inr, ⊎_elim, arith, length, append-nil, None, map}
+use Rattle.std.specs.Prelude.{OnOk, slice_get}
 use Rattle.std.proofs.lemmas.List.{length-map}
-use Rattle.mc_item.specs.declared.{call_event.CallEvent.CallEvent, config.Config.Config, fault.Fault.Fault, fault.Fault.TheVariants.HistoryFull, fault.Fault.TheVariants.NoMemory}
-use Rattle.mc_item.specs.declared.item.ClassNo.{ClassNo}
+use Rattle.mc_item.specs.declared.{call_event.CallEvent.CallEvent, config.Config.Config, fault.Fault.Fault}
 use Rattle.mc_item.specs.declared.call_event.CallEvent.TheVariants as calls
 use Rattle.mc_script.specs.Exchanges.{Asks, Begun, Crawls, Exchange, Juggles, Limits, ScriptCall}
 use Rattle.mc_store.specs.Callers.{answered_at, moment_of, turns_of}
-use Rattle.mc_store.specs.Calls.{IsUnbegun}
-use Rattle.mc_board.specs.declared.rule.Sight.{Sight}
-use Rattle.mc_store.specs.{Passes.PassView, Passes.next_who, Full.LacksPlaces, Serving.HasSeenShort}
-use Rattle.mc_store.proofs.{ShortHistoryLemmas.short_lock, SyncedStepLemmas.any_short}
+use Rattle.mc_store.specs.{Passes.PassView, Passes.next_who}
 use Rattle.mc_driver.specs.{Called.AreInTurn, Called.call_event_of, Called.turns_for, Caller.MayCall}
 use Rattle.mc_driver.proofs.NotedPlaceLemmas.{get_next}
 
@@ -97,9 +93,10 @@ turns_for-push [] call = refl
 turns_for-push (first ∷ calls) call = ap (λ (l : List CallEvent). event_for first ∷ l) (turns_for-push calls call)
 
 -- and so does one that broke off
-turns_for-begun : (calls : List Exchange) (begun : Begun) → turns_for calls (Some begun) ≡ turns_for calls None ++ call_event_of begun.call begun.moment ∷ []
-turns_for-begun [] begun = refl
-turns_for-begun (first ∷ calls) begun = ap (λ (l : List CallEvent). event_for first ∷ l) (turns_for-begun calls begun)
+turns_for-begun : (calls : List Exchange) (call : ScriptCall) (moment : ℕ) (fault : Fault)
+    → turns_for calls (Some (Begun call moment fault)) ≡ turns_for calls None ++ call_event_of call moment ∷ []
+turns_for-begun [] call moment fault = refl
+turns_for-begun (first ∷ calls) call moment fault = ap (λ (l : List CallEvent). event_for first ∷ l) (turns_for-begun calls call moment fault)
 
 -- a caller's history goes on by a call
 pub turns_more : (old new : List CallEvent) (calls : List Exchange) (call : Exchange) → turns_of new ≡ turns_of old ++ event_for call ∷ [] → turns_of old ≡ turns_for calls None
@@ -107,12 +104,12 @@ pub turns_more : (old new : List CallEvent) (calls : List Exchange) (call : Exch
 turns_more old new calls call more turns = more ∙ (ap (λ (l : List CallEvent). l ++ event_for call ∷ []) turns ∙ sym (turns_for-push calls call))
 
 -- or by one that breaks off
-pub turns_begun : (old new : List CallEvent) (calls : List Exchange) (begun : Begun) → new ≡ old ++ call_event_of begun.call begun.moment ∷ [] → turns_of old ≡ turns_for calls None
-    → turns_of new ≡ turns_for calls (Some begun)
-turns_begun old new calls begun more turns =
-    let event = call_event_of begun.call begun.moment in
-    ap turns_of more ∙ (turns_of-call old event (call_event_of-turn begun.call begun.moment)
-    ∙ (ap (λ (l : List CallEvent). l ++ event ∷ []) turns ∙ sym (turns_for-begun calls begun)))
+pub turns_begun : (old new : List CallEvent) (calls : List Exchange) (call : ScriptCall) (moment : ℕ) (fault : Fault) → new ≡ old ++ call_event_of call moment ∷ []
+    → turns_of old ≡ turns_for calls None → turns_of new ≡ turns_for calls (Some (Begun call moment fault))
+turns_begun old new calls call moment fault more turns =
+    let event = call_event_of call moment in
+    ap turns_of more ∙ (turns_of-call old event (call_event_of-turn call moment)
+    ∙ (ap (λ (l : List CallEvent). l ++ event ∷ []) turns ∙ sym (turns_for-begun calls call moment fault)))
 
 -- its next call is in the turn of its place
 pub in_turn_more : (pass : PassView) (calls : List Exchange) (call : Exchange) → AreInTurn pass.caller calls → call.who ≡ next_who pass → length (turns_of pass.calls) ≡ pass.turn
@@ -130,19 +127,3 @@ in_turn_more pass calls call own who many turns = record {
 pub may_again : {T : Type 0} (config : Config) (old new : PassView) (r : Result T Fault) → MayCall config old → new.turn ≡ length (turns_of new.calls) → OnOk r (MayCall config new)
 may_again config old new (Ok x) may turn = record { some = may.some; turns = sym turn }
 may_again config old new (Err fault) may turn = tt
-
--- ---- a full history
-
--- a class's history with no place left is short
-pub lacks_short : (config : Config) (sight : Sight) (class : ClassNo) → LacksPlaces config sight class 1 → HasSeenShort config sight
-lacks_short config sight class lacks = short_lock config sight (any_short config sight lacks)
-
--- a call that failed for a full history has seen a short one, or its caller has had all its turns
-pub full_calls : {T : Type 0} (config : Config) (old new : PassView) (r : Result T Fault) (Till : Fault → Type 0) → MayCall config old
-    → IfErr r (λ fault. IsUnbegun config old new fault ⊎ Till fault) → (Till HistoryFull → HasSeenShort config new.sight)
-    → IsErrOf r HistoryFull → HasSeenShort config new.sight ⊎ (config.max_events ≤ length (turns_of new.calls))
-full_calls config old new (Ok x) Till may cut short is = absurd (cc is)
-full_calls config old new (Err NoMemory) Till may cut short is = absurd (cc is)
-full_calls config old new (Err HistoryFull) Till may (inr till) short is = inl (short till)
-full_calls config old new (Err HistoryFull) Till may (inl early) short is =
-    inr (omega (arith, may.turns, ap (λ (p : PassView). length (turns_of p.calls)) early.0, early.1 refl))

@@ -1,22 +1,21 @@
 -- What a caller's work leaves in the store of a run, where its pass was compared with that store.
-use Rattle.std.proofs.Common.{◌≡◌, ◌≤◌, ◌++◌, ℕ, List, [], Option, None, length, inl, inr, refl, subst, ⊎_elim}
-use Rattle.mc_item.specs.declared.{call_event.CallEvent.CallEvent, config.Config.Config}
+use Rattle.std.proofs.Common.{◌≡◌, ◌++◌, ℕ, List, [], Option, None, refl, subst}
+use Rattle.mc_item.specs.declared.{config.Config.Config}
 use Rattle.mc_hits.specs.Views.{HitsView, tables_of}
 use Rattle.mc_proto.specs.declared.request.Limits.{Limits}
-use Rattle.mc_script.specs.{Exchanges.Begun, Calls.Notes, Exchanges.Exchange, Run.Leaves, Upkeep.KeepsUp, Upkeep.work_of}
+use Rattle.mc_script.specs.{Calls.Notes, Exchanges.Exchange, Exchanges.Failure, Run.Leaves, Upkeep.KeepsUp, Upkeep.work_of}
 use Rattle.mc_script.specs.declared.{outcome.Outcome.Outcome}
 use Rattle.mc_script.specs.declared.outcome.Outcome.TheVariants as outcomes
 use Rattle.mc_store.specs.{Finals.AreClasses, Finals.AreStripes, Finals.FinalView, Passes.PassView, Passes.new_pass}
-use Rattle.mc_driver.specs.Called.{AreInTurn, AreItsCalls, AreWholeTurns, HasNoPlace, IsCompared}
+use Rattle.mc_driver.specs.Called.{AreInTurn, AreItsCalls, AreWholeTurns, IsCompared}
 use Rattle.mc_driver.specs.{Caller.AreNoted, Jobs.HasWorked, Jobs.Works, Run.histories_left}
 use Rattle.mc_driver.specs.declared.{jobs.Work.Work, jobs.Work.TheVariants.Script, jobs.Work.TheVariants.Upkeep}
-use Rattle.mc_driver.proofs.{ScriptFactLemmas.KnowsSome, ScriptFactLemmas.keeps_some, ScriptFactLemmas.keeps_up_as, ScriptFactLemmas.leaves_as, ScriptFactLemmas.leaves_some, RunLeavesLemmas.left_calls}
-use Rattle.mc_driver.proofs.{RunLeavesLemmas.left_full, LeftEventLemmas.whole_turns}
+use Rattle.mc_driver.proofs.{ScriptFactLemmas.keeps_up_as, ScriptFactLemmas.leaves_as, RunLeavesLemmas.left_calls, LeftEventLemmas.whole_turns}
 
 module _ {E : Type 0} (gave : E → E → List ℕ → Type 0) (at_end : E → Type 0) (taken : E → List ℕ) (reads writes : E → ℕ) where
   -- what is known of a caller's calls may be said by another fact that follows
   works_as : (limits : Limits) (moments : List ℕ) (notes notes' : Notes) (caller : ℕ) (outcome : Outcome) (work work' : Work E)
-      → ((calls : List Exchange) (begun : Option Begun) → notes calls begun → notes' calls begun)
+      → ((calls : List Exchange) (end : Option Failure) → notes calls end → notes' calls end)
       → Works gave at_end taken reads writes limits moments notes caller outcome work work' → Works gave at_end taken reads writes limits moments notes' caller outcome work work'
   works_as limits moments notes notes' caller outcome (Script ends) (Script left) follows works =
       let of = works.0 in (
@@ -31,18 +30,7 @@ module _ {E : Type 0} (gave : E → E → List ℕ → Type 0) (at_end : E → T
   works_as limits moments notes notes' caller outcome (Script ends) (Upkeep left) follows works = works
   works_as limits moments notes notes' caller outcome (Upkeep keeper) (Script left) follows works = works
 
-  -- however a work ended, some calls of it are known
-  works_some : (limits : Limits) (moments : List ℕ) (notes : Notes) (caller : ℕ) (outcome : Outcome) (work work' : Work E)
-      → Works gave at_end taken reads writes limits moments notes caller outcome work work'
-      → KnowsSome notes
-  works_some limits moments notes caller outcome (Script ends) (Script left) works =
-      let of = works.0 in
-      leaves_some limits (of.came ++ []) [] (taken ends) (taken left) notes caller outcome (of.leaves [] (λ over. refl))
-  works_some limits moments notes caller outcome (Upkeep keeper) (Upkeep left) works = keeps_some limits (work_of keeper moments) notes caller outcome works.1
-  works_some limits moments notes caller outcome (Script ends) (Upkeep left) works = absurd works
-  works_some limits moments notes caller outcome (Upkeep keeper) (Script left) works = absurd works
-
-  -- and where it is done, none of them broke off
+  -- where it is done, none of its calls failed
   works_done : (limits : Limits) (moments : List ℕ) (notes : Notes) (caller : ℕ) (outcome : Outcome) (work work' : Work E) → outcome ≡ outcomes.Done
       → Works gave at_end taken reads writes limits moments notes caller outcome work work' → (calls : List Exchange) × notes calls None
   works_done limits moments notes caller outcome (Script ends) (Script left) is works =
@@ -59,30 +47,15 @@ module _ {E : Type 0} (gave : E → E → List ℕ → Type 0) (at_end : E → T
       (all_classes : AreClasses final.board config final.classes) (caller : ℕ) (pass : PassView) (outcome : Outcome) (work work' : Work E)
       (has : HasWorked gave at_end taken reads writes config limits moments (new_pass (tables_of queues) caller) pass outcome work work') (compared : IsCompared pass final) where
     -- the calls that it has noted, as the store shows them
-    shown : (calls : List Exchange) (begun : Option Begun) → AreNoted config pass calls begun → AreItsCalls config caller (histories_left final) calls begun
-    shown calls begun noted = subst (λ (k : ℕ). AreItsCalls config k (histories_left final) calls begun) has.caller (left_calls config final all all_classes pass compared calls begun noted)
+    shown : (calls : List Exchange) (end : Option Failure) → AreNoted config pass calls end → AreItsCalls config caller (histories_left final) calls end
+    shown calls end noted = subst (λ (k : ℕ). AreItsCalls config k (histories_left final) calls end) has.caller (left_calls config final all all_classes pass compared calls end noted)
 
-    own : (calls : List Exchange) (begun : Option Begun) → AreNoted config pass calls begun → AreInTurn caller calls
-    own calls begun noted = subst (λ (k : ℕ). AreInTurn k calls) has.caller noted.own
+    own : (calls : List Exchange) (end : Option Failure) → AreNoted config pass calls end → AreInTurn caller calls
+    own calls end noted = subst (λ (k : ℕ). AreInTurn k calls) has.caller noted.own
 
     -- a caller's work as the store shows it
     pub works_left : Works gave at_end taken reads writes limits moments (AreItsCalls config caller (histories_left final)) caller outcome work work'
     works_left = works_as limits moments (AreNoted config pass) (AreItsCalls config caller (histories_left final)) caller outcome work work' shown has.works
-
-    -- where a history was full, one is, or the caller made all calls that it may
-    pub full_left : outcome ≡ outcomes.HistoryFull → HasNoPlace config caller (histories_left final)
-    full_left is = ⊎_elim
-        (λ short. inl (left_full config final all all_classes pass compared short))
-        (λ most.
-        let known = works_some limits moments (AreNoted config pass) caller outcome work work' has.works in
-        inr (record {
-          calls = known.0;
-          begun = known.1;
-          are = shown known.0 known.1 known.2;
-          own = own known.0 known.1 known.2;
-          all = subst (λ (l : List CallEvent). config.max_events ≤ length l) known.2.turns most;
-        }))
-        (has.full is)
 
     -- where it was done, each event in its name has its call
     pub whole_left : outcome ≡ outcomes.Done → AreWholeTurns config caller (histories_left final)

@@ -113,7 +113,6 @@ module _ {R W : Type 0} (remaining : R → Option (List ℕ)) (contents : W → 
       maintained = run.maintained;
       crawled = run.crawled;
       idle = run.idle;
-      full = run.full;
       whole = run.whole;
       by = run.by;
       many = run.many;

@@ -13,22 +13,38 @@ use Rattle.mc_board.proofs.PrefixLemmas.{prefix_self}
 use Rattle.mc_evidence.specs.{Seen.class_events, Seen.classes_seen, Seen.stripe_events, Setting.IsClass, Setting.site_in}
 use Rattle.mc_evidence.proofs.SeenLemmas.{class_events-map, classes_grow, stripe_events-map}
 use Rattle.mc_pull.specs.Rounds.{Rounds, rounds}
-use Rattle.mc_script.specs.Exchanges.{Asks, Begun, Crawls, Juggles, Limits, ScriptCall}
+use Rattle.mc_script.specs.Exchanges.{Asks, Crawls, Juggles, Limits}
 use Rattle.mc_segment.specs.ClassState.{ClassView}
-use Rattle.mc_stripe.specs.{Plan.visible_row, StripeState.Stripe, StripeState.stripe}
-use Rattle.mc_store.specs.{Accounts.IsOfCommand, Accounts.Stretch, Calls.IsCutBy, Calls.IsJuggleCut, Calls.IsJuggledTill, Calls.IsLimitedBy, Calls.IsUpkeepCut}
+use Rattle.mc_stripe.specs.{Plan.visible_row, StripeCalls.KeepsSite, StripeState.Stripe, StripeState.stripe}
+use Rattle.mc_store.specs.Full.{IsFullFor}
+use Rattle.mc_store.proofs.FullLemmas.{entries_later, full_same}
+use Rattle.mc_store.specs.{Accounts.IsOfCommand, Accounts.Stretch, Calls.IsCutBy, Calls.IsJuggleCut, Calls.IsJuggledTill, Calls.IsLimitedTill, Calls.IsUpkeepCut}
 use Rattle.mc_segment.specs.ClassState.{opened}
 use Rattle.mc_store.specs.{Crawls.AreLinksCounted, Crawls.IsCrawledTill, Hits.AreAdvanced, Locked.class_lock, Locked.setting_of, Passes.PassView}
 use Rattle.mc_store.specs.{Passes.next_who, Reached.IsSeenState, Reached.IsStateBetween, Reached.seen_stripes, Sides.class_told, Sides.stripe_told}
 use Rattle.mc_store.specs.Searches.{IsSearchUpTo, Searcher, rounds_in, searcher, sight_of}
 use Rattle.mc_store.proofs.{EarnedRefusalLemmas.broken_more, EarnedRefusalLemmas.opened_again, LockKeepsLemmas.site_of_number, SyncedStepLemmas.map_length}
-use Rattle.mc_driver.specs.{Caller.EntersOnly, Caller.IsBefore, Caller.histories_seen, Cut.NotesJugglingCut, Cut.NotesSearchUpTo, Searched.with_stripe}
-use Rattle.mc_driver.specs.Stand.{BreaksOffAfter, stripe_number}
+use Rattle.mc_driver.specs.{Caller.EntersOnly, Caller.IsBefore, Cut.NotesJugglingCut, Cut.NotesSearchUpTo, Noted.stripe_with, Searched.with_stripe}
+use Rattle.mc_driver.specs.Stand.{BreaksOffAfter, histories_seen, stripe_number}
 use Rattle.mc_driver.proofs.{EnteredCallLemmas.entered_only, EnteredCallLemmas.stands_within, NotedPlaceLemmas.class_begins, NotedPlaceLemmas.stripe_begins}
 use Rattle.mc_driver.proofs.SeenByCallLemmas.{led_up_there, own_states, search_there, seen_grow}
 
-abbrev begun_call : ScriptCall → ℕ → Begun
-begun_call call moment = record { call = call; moment = moment }
+-- of the stripe that a command left, another with the same history will do
+full_later : (config : Config) (s s_new t : Stripe) (sight : Sight) (command : Command) (moment : ℕ) → KeepsSite s_new t → t.history ≡ s_new.history
+    → IsFullFor config s s_new sight command moment → IsFullFor config s t sight command moment
+full_later config s s_new t sight command moment site same (inl full) = inl (omega (arith, site.limit, ap length same, full))
+full_later config s s_new t sight command moment site same (inr (inl burial)) = inr (inl (record {
+  link = burial.link;
+  dead = burial.dead;
+  lacks = ⊎_elim (λ own. inl (omega (arith, site.limit, ap length same, own))) (λ of. inr of) burial.lacks;
+}))
+full_later config s s_new t sight command moment site same (inr (inr (inl entries))) = inr (inr (inl entries))
+full_later config s s_new t sight command moment site same (inr (inr (inr search))) = inr (inr (inr (record {
+  class = search.class;
+  fresh = search.fresh;
+  full = search.full;
+  short = ⊎_elim (λ short. inl short) (λ entries. inr (entries_later config s_new t sight command moment site same entries)) search.short;
+})))
 
 -- what was seen to begin a class's history begins what was seen of it
 class_seen_begins : (config : Config) (sight : Sight) (class : ClassNo) (history : List ClassEvent) → IsPrefix (class_told history) (list_at sight.seen (class_lock config class))
@@ -61,13 +77,15 @@ search_up_to_there by need s seen sight stretch (inr some) =
 -- of a command
 pub command_broke : (config : Config) (before after : PassView) (command : Command) (moment : ℕ) (fault : Fault) → 0 < config.stripes → Grows before.sight after.sight → IsBefore before.turn before.made
     → IsCutBy config (stripe_number config.stripes command) before after command moment fault
-    → BreaksOffAfter (EntersOnly after) config (histories_seen config before.sight) (histories_seen config after.sight) (next_who before) (begun_call (Asks command) moment)
+    → BreaksOffAfter (EntersOnly after) (λ sight. sight ≡ after.sight) config (histories_seen config before.sight) (histories_seen config after.sight) (next_who before) (Asks command) moment fault
 command_broke config before after command moment fault some grows earlier by =
     let who = next_who before in
     let number = stripe_number config.stripes command in
     let longer = by.old.history ++ by.cut.before in
     let now : stripe_events (list_at after.sight.seen number) ≡ by.new.history = ap stripe_events by.grew.now ∙ stripe_events-map by.new.history in
     let site : by.old.site ≡ site_in (setting_of config) number = sym (site_of_number config by.old by.grew.made_with) ∙ ap (site_in (setting_of config)) by.grew.number_is in
+    let limit = by.grew.made_with.limit in
+    let keeps = by.grew.made_with.keeps_events in
     record {
       grew = seen_grow config before.sight after.sight grows;
       placed = mod-lt (fnv1a (key_of command)) some;
@@ -93,6 +111,15 @@ command_broke config before after command moment fault some grows earlier by =
               (ap (λ (l : List Event). slice_get l place) (sym seen) ∙ at) mine in
               (within.0, subst (λ (h : List StripeEvent). place < length h) by.cut.history_is within.1),
         )),
+        λ full. (
+          after.sight,
+          refl,
+          full_same config (stripe_with config number by.old.history) by.old (stripe_with config number longer) after.sight command moment (record { site = site; limit = limit; keeps_events = keeps })
+              refl
+              (full_later config by.old by.new (stripe_with config number longer) after.sight command moment
+              (record { site = sym (by.grew.site.site ∙ site); limit = sym (by.grew.site.limit ∙ limit); keeps_events = sym (by.grew.site.keeps_events ∙ keeps) })
+              (sym by.cut.history_is) (by.full full)),
+        ),
       );
     }
 
@@ -145,7 +172,7 @@ module _ (config : Config) (class : ClassNo) (before after : PassView) (moment :
   after_is (inr rest) = refl
 
   pub juggling_broke : IsClass (setting_of config) class → Grows before.sight after.sight → IsBefore before.turn before.made
-      → BreaksOffAfter (EntersOnly after) config (histories_seen config before.sight) (histories_seen config after.sight) (next_who before) (begun_call (Juggles class) moment)
+      → BreaksOffAfter (EntersOnly after) (λ sight. sight ≡ after.sight) config (histories_seen config before.sight) (histories_seen config after.sight) (next_who before) (Juggles class) moment fault
   juggling_broke is grows earlier = record {
     grew = seen_grow config before.sight after.sight grows;
     placed = is;
@@ -158,6 +185,7 @@ module _ (config : Config) (class : ClassNo) (before after : PassView) (moment :
           inl (own, (omega arith, subst (λ (n : ℕ). place < n) (map_length board_events.Class till.history_new ∙ ap length (sym (after_is till.cut))) below)))
           (λ stripe. inr stripe)
           suits),
+      λ full. (after.sight, refl, till.full full),
     );
   }
 
@@ -174,7 +202,7 @@ counted_told config class older newer at seen until who moment (link ∷ links) 
 -- of a crawl
 pub crawl_broke : (config : Config) (class : ClassNo) (before after : PassView) (moment : ℕ) (fault : Fault) → IsClass (setting_of config) class → Grows before.sight after.sight → IsBefore before.turn before.made
     → IsCrawledTill config class before after moment fault
-    → BreaksOffAfter (EntersOnly after) config (histories_seen config before.sight) (histories_seen config after.sight) (next_who before) (begun_call (Crawls class) moment)
+    → BreaksOffAfter (EntersOnly after) (λ sight. sight ≡ after.sight) config (histories_seen config before.sight) (histories_seen config after.sight) (next_who before) (Crawls class) moment fault
 crawl_broke config class before after moment fault is grows earlier till =
     let older = seen_stripes before.sight in
     let newer = seen_stripes after.sight in
@@ -195,22 +223,26 @@ crawl_broke config class before after moment fault is grows earlier till =
           begins = class_seen_begins config after.sight class told.0 (subst (λ (es : List Event). IsPrefix es (list_at after.sight.seen (class_lock config class))) told.1 till.now);
         },
         entered_only before after _ _ earlier till.account (λ lock place event at mine suits. suits),
+        λ full. (after.sight, refl, till.full full),
       );
     }
 
 -- a call that sets a limit made no event
-pub limit_broke : (config : Config) (class : ClassNo) (before after : PassView) (chunks moment : ℕ) → IsClass (setting_of config) class → Grows before.sight after.sight → IsBefore before.turn before.made
-    → IsLimitedBy config class before after chunks []
-    → BreaksOffAfter (EntersOnly after) config (histories_seen config before.sight) (histories_seen config after.sight) (next_who before) (begun_call (Limits class chunks) moment)
-limit_broke config class before after chunks moment is grows earlier limited =
-    let by = limited.gained in
+pub limit_broke : (config : Config) (class : ClassNo) (before after : PassView) (chunks moment : ℕ) (fault : Fault) → IsClass (setting_of config) class → Grows before.sight after.sight → IsBefore before.turn before.made
+    → IsLimitedTill config class before after chunks fault
+    → BreaksOffAfter (EntersOnly after) (λ sight. sight ≡ after.sight) config (histories_seen config before.sight) (histories_seen config after.sight) (next_who before) (Limits class chunks) moment fault
+limit_broke config class before after chunks moment fault is grows earlier till =
+    let by = till.limited.gained in
     let same = append-nil by.old.history in
     record {
       grew = seen_grow config before.sight after.sight grows;
       placed = is;
-      left = entered_only before after _ _ earlier limited.account (λ lock place event at mine own.
-          let seen : list_at after.sight.seen lock ≡ class_told (by.old.history ++ []) = ap (list_at after.sight.seen) own ∙ by.grew.now in
-          let within = stands_within board_events.Class maker_of (next_who before) by.old.history [] (by.old.history ++ []) place event (λ e. refl) by.first.each refl
-          (ap (λ (l : List Event). slice_get l place) (sym seen) ∙ at) mine in
-          omega (arith, within.0, within.1, ap length same));
+      left = (
+        entered_only before after _ _ earlier till.limited.account (λ lock place event at mine own.
+            let seen : list_at after.sight.seen lock ≡ class_told (by.old.history ++ []) = ap (list_at after.sight.seen) own ∙ by.grew.now in
+            let within = stands_within board_events.Class maker_of (next_who before) by.old.history [] (by.old.history ++ []) place event (λ e. refl) by.first.each refl
+            (ap (λ (l : List Event). slice_get l place) (sym seen) ∙ at) mine in
+            omega (arith, within.0, within.1, ap length same)),
+        λ full. (after.sight, refl, till.full full),
+      );
     }

@@ -8,7 +8,7 @@ use Rattle.mc_proto.specs.Scripts as cut
 use Rattle.mc_script.specs.declared.{outcome.Outcome.Outcome, upkeep.Keeper.TheVariants.Crawler, upkeep.Keeper.TheVariants.Maintainer}
 use Rattle.mc_script.specs.declared.outcome.Outcome.TheVariants as outcomes
 use Rattle.mc_store.specs.Finals.{FinalView}
-use Rattle.mc_driver.specs.{Called.AreByCallers, Called.AreWholeTurns, Called.HasNoPlace, Input.AreRun, Input.IsRunOf, Input.ToAndFrom}
+use Rattle.mc_driver.specs.{Called.AreByCallers, Called.AreWholeTurns, Input.AreRun, Input.IsRunOf, Input.ToAndFrom}
 use Rattle.mc_driver.specs.{Left.AreKeepersDone, Left.IsKeptUp, Left.IsRunDone, Left.IsScriptLeft}
 use Rattle.mc_driver.specs.Run.{IsAccepted, callers_at_work, histories_left, limits_of, with_callers}
 
@@ -49,7 +49,6 @@ module _ {K : Type 0} (taken : K → List ℕ) (writes : K → ℕ) where
       maintained = subst (λ n. (outcome : Outcome) → IsKeptUp Maintainer config moments n (slice_index_or ended n outcome) (histories_left final)) (sym many) left.maintained;
       crawled = subst (λ n. (outcome : Outcome) → IsKeptUp Crawler config moments (n + 1) (slice_index_or ended (n + 1) outcome) (histories_left final)) (sym many) left.crawled;
       idle = subst (λ n. moments ≡ [] → AreKeepersDone n ended) (sym many) left.idle;
-      full = subst (λ n. (i : ℕ) (outcome : Outcome) → i < n + 2 → slice_index_or ended i outcome ≡ outcomes.HistoryFull → HasNoPlace config i (histories_left final)) (sym many) left.full;
       whole = subst (λ n. (i : ℕ) (outcome : Outcome) → i < n + 2 → slice_index_or ended i outcome ≡ outcomes.Done → AreWholeTurns config i (histories_left final)) (sym many) left.whole;
       by = subst (λ n. AreByCallers config (callers_at_work n moments) (histories_left final)) (sym many) left.by;
       many = left.many ∙ ap (λ n. n + 2) (sym many);

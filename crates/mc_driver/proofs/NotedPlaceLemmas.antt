@@ -1,5 +1,5 @@
 -- The places that a caller's history has, and what stands there, as its calls go on.
-use Rattle.std.proofs.Common.{◌≡◌, ◌<◌, ◌≤◌, ◌+◌, ℕ, zero, suc, List, [], ◌∷◌, ◌++◌, inl, inr, refl, sym, ap, ◌∙◌, subst, arith, length, append-nil}
+use Rattle.std.proofs.Common.{◌≡◌, ◌<◌, ◌≤◌, ◌+◌, ◌⊎◌, ℕ, zero, suc, List, [], ◌∷◌, ◌++◌, inl, inr, refl, sym, ap, ◌∙◌, subst, arith, length, append-nil}
 use Rattle.std.specs.Prelude.{Bool, true, false, Some, cond, nat_eq}
 use Rattle.std.specs.List.{slice_get}
 use Rattle.std.proofs.lemmas.Option.{slice_get_within}
@@ -10,7 +10,7 @@ use Rattle.mc_item.specs.declared.call_event.CallEvent.TheVariants as calls
 use Rattle.mc_evidence.specs.Seen.{class_events, stripe_events}
 use Rattle.mc_evidence.proofs.SeenLemmas.{class_events-map, classes_grow, stripe_events-map, stripes_grow}
 use Rattle.mc_script.specs.Exchanges.{Exchange}
-use Rattle.mc_store.specs.{Callers.IsCall, Callers.answered_at, Callers.IsCalled, Callers.IsNext, Callers.turns_of, Sides.class_told, Sides.stripe_told}
+use Rattle.mc_store.specs.{Callers.answered_at, Callers.IsCalled, Callers.IsNext, Callers.turns_of, Sides.class_told, Sides.stripe_told}
 use Rattle.mc_driver.specs.Caller.{AreAt, AreRising, IsAt, places_in}
 use Rattle.mc_driver.proofs.OnlyCallsLemmas.{IsOneOf, is_yes}
 use Rattle.mc_item.specs.declared.stripe_event.StripeEvent.TheVariants as events
@@ -115,6 +115,11 @@ first_if false place ps is = absurd (cc)
 more_if : (b : Bool) (q place : ℕ) (ps : List ℕ) → IsOneOf place ps → IsOneOf place (cond b (q ∷ ps) ps)
 more_if true q place ps is = inr is
 more_if false q place ps is = is
+
+-- the event is one of these
+abbrev IsCall : CallEvent → List CallEvent → Type 0
+IsCall call [] = ⊥
+IsCall call (e ∷ es) = (e ≡ call) ⊎ IsCall call es
 
 -- where a caller's history has an answer, its place is one of these
 pub call_place : (number place : ℕ) (events : List CallEvent) → IsCall (answered_at number place) events → IsOneOf place (places_in number events)

@@ -1,21 +1,21 @@
 -- What a run leaves: the closed store, and what the caller's pass has seen of it.
-use Rattle.std.proofs.Common.{◌≡◌, ◌<◌, ◌≤◌, ◌+◌, ◌-◌, ℕ, suc, List, Option, Some, length, option_map, slice_get, refl, sym, ap, ◌∙◌, subst, arith, inl, inr}
-use Rattle.std.proofs.lemmas.{Bool.cases_lt, Option.slice_get-map}
+use Rattle.std.proofs.Common.{◌≡◌, ◌<◌, ◌+◌, ◌-◌, ℕ, List, Option, Some, length, option_map, slice_get, refl, sym, ap, ◌∙◌, subst, arith}
+use Rattle.std.proofs.lemmas.{Option.slice_get-map}
 use mathlib.Core.List.{IsPrefix}
 use Rattle.mc_item.specs.declared.{answer.Site.Site, class_event.ClassEvent.ClassEvent, config.Config.Config, event.Event.Event, event.Event.TheVariants.Class}
 use Rattle.mc_item.specs.declared.{event.Event.TheVariants.Stripe, item.ClassNo.ClassNo, item.Who.Who, stripe_event.StripeEvent.StripeEvent}
 use Rattle.mc_item.specs.declared.stripe_event.StripeEvent.TheVariants as events
 use Rattle.mc_board.specs.{Accounts.IsEntered, Accounts.maker_in, Histories.list_at}
 use Rattle.mc_board.specs.declared.rule.Sight.{Sight}
-use Rattle.mc_board.proofs.{AccountLemmas.get_longer, PrefixLemmas.prefix_length}
+use Rattle.mc_board.proofs.{AccountLemmas.get_longer}
 use Rattle.mc_evidence.specs.{Setting.IsClass, Sound.IsSoundStore}
 use Rattle.mc_item.specs.Stripe.{IsLegal}
-use Rattle.mc_script.specs.Exchanges.{Begun, Exchange}
+use Rattle.mc_script.specs.Exchanges.{Exchange, Failure}
 use Rattle.mc_store.specs.Finals.{AreClasses, AreExactlyEntries, AreStripes, FinalView, class_histories, class_history, stripe_histories, stripe_history}
-use Rattle.mc_store.specs.{Locked.class_lock, Locked.setting_of, Passes.PassView, Serving.HasSeenShort, Sides.ClassSide, Sides.StripeSide, Sides.class_told}
+use Rattle.mc_store.specs.{Locked.class_lock, Locked.setting_of, Passes.PassView, Sides.ClassSide, Sides.StripeSide, Sides.class_told}
 use Rattle.mc_store.specs.{Sides.stripe_told}
-use Rattle.mc_store.proofs.{NumberOrderLemmas.get_some, SyncedStepLemmas.map_length}
-use Rattle.mc_driver.specs.{Called.AreCalledBy, Called.AreItsCalls, Called.IsCompared, Caller.AreNoted, Caller.EntersOnly, Caller.histories_seen, Caller.places_in, Run.HasFull, Run.IsStore}
+use Rattle.mc_store.proofs.{NumberOrderLemmas.get_some}
+use Rattle.mc_driver.specs.{Called.AreCalledBy, Called.AreItsCalls, Called.IsCompared, Caller.AreNoted, Caller.EntersOnly, Caller.places_in, Run.IsStore, Stand.HasSeen, Stand.histories_seen}
 use Rattle.mc_driver.specs.{Run.histories_left, Stand.StandsLast, Stand.Grow, Stand.MakesOnly, Stand.calls_at, Stand.nothing_seen}
 use Rattle.mc_driver.proofs.{NotedPlaceLemmas.at_later, NotedPlaceLemmas.called_place, NotedPlaceLemmas.class_begins, NotedPlaceLemmas.stripe_begins, OnlyCallsLemmas.only_these}
 use Rattle.mc_driver.proofs.{EnteredCallLemmas.some_at, LeftEventLemmas.called_by, LeftEventLemmas.in_class, LeftEventLemmas.in_stripe}
@@ -83,24 +83,6 @@ module _ (config : Config) (final : FinalView) (all : AreStripes final.board con
       classes = λ class is. class_begins (list_at sight.seen (class_lock config class)) (class_histories final.classes class) (class_seen class is);
     }
 
-    -- and where it has seen that a history is short of places, it is
-    pub left_full : HasSeenShort config sight → HasFull config (histories_left final)
-    left_full short = elim (cases_lt short.lock config.stripes) [
-      | inl below ↦
-          let long : length (list_at sight.seen short.lock) ≤ length (stripe_histories final.stripes short.lock) =
-          subst (λ (n : ℕ). length (list_at sight.seen short.lock) ≤ n) (map_length _ (stripe_histories final.stripes short.lock)) (prefix_length _ _ (stripe_seen short.lock below)) in
-          inl (record { number = short.lock; below = below; full = let full = short.stripe below in omega (arith, full, long) })
-      | inr past ↦
-          let class : ClassNo = record { 0 = suc (short.lock - config.stripes) } in
-          let first : 1 ≤ class.0 = omega arith in
-          let last : class.0 ≤ length config.sizes = omega (arith, short.of, past) in
-          let lock : class_lock config class ≡ short.lock = omega (arith, past) in
-          let seen = subst (λ (k : ℕ). IsPrefix (list_at sight.seen k) (class_told (class_histories final.classes class))) lock (class_seen class (first, last)) in
-          let long : length (list_at sight.seen short.lock) ≤ length (class_histories final.classes class) =
-          subst (λ (n : ℕ). length (list_at sight.seen short.lock) ≤ n) (map_length _ (class_histories final.classes class)) (prefix_length _ _ seen) in
-          inr (record { number = class; first = first; last = last; full = omega (arith, short.short, long) })
-    ]
-
     -- and what its account has of a call is all that the store has of it
     makes_only : (who : Who) → who.caller ≡ pass.caller → (Suits : (lock place : ℕ) → Event → Type 0) → EntersOnly pass who Suits → MakesOnly config (histories_left final) who Suits
     makes_only who of Suits has = record {
@@ -135,13 +117,14 @@ module _ (config : Config) (final : FinalView) (all : AreStripes final.board con
     next calls = record { caller = pass.caller; turn = length calls }
 
     -- the calls that the pass has noted stand in it, and of the caller there are only these
-    pub left_calls : (calls : List Exchange) (begun : Option Begun) → AreNoted config pass calls begun → AreItsCalls config pass.caller (histories_left final) calls begun
-    left_calls calls begun noted = record {
-      stand = stand_by (EntersOnly pass) (MakesOnly config (histories_left final)) config nothing_seen calls (StandsLast (EntersOnly pass) config (histories_seen config sight) (next calls) begun)
-          (StandsLast (MakesOnly config (histories_left final)) config (histories_left final) (next calls) begun)
+    pub left_calls : (calls : List Exchange) (end : Option Failure) → AreNoted config pass calls end → AreItsCalls config pass.caller (histories_left final) calls end
+    left_calls calls end noted = record {
+      stand = stand_by (EntersOnly pass) (MakesOnly config (histories_left final)) config nothing_seen calls (StandsLast (EntersOnly pass) (λ has. has ≡ sight) config (histories_seen config sight) (next calls) end)
+          (StandsLast (MakesOnly config (histories_left final)) (HasSeen config (histories_left final)) config (histories_left final) (next calls) end)
           (λ k call at Suits. makes_only call.who (ap (λ (w : Who). w.caller) (noted.own.each k call at)) Suits)
-          (λ reached end. stand_last_by (EntersOnly pass) (MakesOnly config (histories_left final)) config (histories_left final) (next calls) begun (makes_only (next calls) refl) reached
-          (stand_last_later (EntersOnly pass) config (histories_seen config sight) (histories_left final) (next calls) begun left_grows reached end))
+          (λ reached last. stand_last_by (EntersOnly pass) (MakesOnly config (histories_left final)) (λ has. has ≡ sight) (HasSeen config (histories_left final))
+          (λ has is. subst (HasSeen config (histories_left final)) (sym is) (record { stripes = stripe_seen; classes = class_seen })) config (histories_left final) (next calls) end (makes_only (next calls) refl) reached
+          (stand_last_later (EntersOnly pass) (λ has. has ≡ sight) config (histories_seen config sight) (histories_left final) (next calls) end left_grows reached last))
           noted.stand;
       only = record {
         at = λ number below.

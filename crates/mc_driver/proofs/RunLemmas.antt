@@ -14,7 +14,7 @@ use Rattle.mc_store.specs.{Finals.AreClasses, Finals.AreStripes, Finals.FinalVie
 use Rattle.mc_driver.specs.{Called.AreItsCalls, Called.IsCompared, Jobs.HasWorked, Jobs.Works, Jobs.ends_in, Jobs.works_of, Left.IsKeptUp}
 use Rattle.mc_driver.specs.{Left.IsRunDone, Left.IsScriptLeft, Run.IsStore, Run.histories_left, Run.limits_of}
 use Rattle.mc_driver.specs.declared.{jobs.Work.Work, jobs.Work.TheVariants.Script, jobs.Work.TheVariants.Upkeep}
-use Rattle.mc_driver.proofs.{ComparedPassLemmas.full_left, ComparedPassLemmas.whole_left, ComparedPassLemmas.works_left}
+use Rattle.mc_driver.proofs.{ComparedPassLemmas.whole_left, ComparedPassLemmas.works_left}
 use Rattle.mc_driver.proofs.{LeftEventLemmas.by_working}
 use Rattle.mc_driver.proofs.JobLemmas.{AreScripts, HasWorkedAt, crawler_at, ends_at, ends_many, maintainer_at, script_at, worked_at, works_many}
 
@@ -130,10 +130,6 @@ module _ {E : Type 0} (gave : E → E → List ℕ → Type 0) (at_end : E → T
             maintainer = λ outcome. (kept_idle (length scripts) Maintainer outcome (omega arith) (maintainer_at scripts) none).0;
             crawler = λ outcome. (kept_idle (length scripts + 1) Crawler outcome (omega arith) crawler none).0;
           };
-          full = λ i outcome below so.
-              let w = worked i below in
-              full_left gave at_end taken reads writes config queues (limits_of config) moments final all all_classes i w.pass w.outcome w.work w.work' w.has (compared i w.pass w.passed)
-              (sym (get_or_from_slice_get ended i w.outcome outcome w.ended) ∙ so);
           whole = λ i outcome below so.
               let w = worked i below in
               whole_left gave at_end taken reads writes config queues (limits_of config) moments final all all_classes i w.pass w.outcome w.work w.work' w.has (compared i w.pass w.passed)

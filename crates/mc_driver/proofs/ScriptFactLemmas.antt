@@ -2,22 +2,21 @@
 use Rattle.std.proofs.Common.{ℕ, List, [], ◌∷◌, Option, inl, inr}
 use Rattle.mc_item.specs.declared.fault.Fault.{Fault}
 use Rattle.mc_proto.specs.declared.{request.Limits.Limits, request.Request.Request}
-use Rattle.mc_script.specs.{Calls.AreCutOff, Calls.Notes, Exchanges.Begun, Exchanges.Exchange, Exchanges.ScriptCall, Script.Answered, Upkeep.HasBrokenOff, Upkeep.KeepsUp}
+use Rattle.mc_script.specs.{Calls.AreBrokenOff, Calls.AreCutOff, Calls.Notes, Exchanges.Exchange, Exchanges.Failure, Exchanges.ScriptCall, Script.Answered, Upkeep.HasBrokenOff, Upkeep.KeepsUp}
 use Rattle.mc_script.specs.Run.{HasBroken, HasRun, HasRunTo, HasStopped, Leaves, MayBeCutOff}
 use Rattle.mc_script.specs.declared.outcome.Outcome.{Outcome}
 use Rattle.mc_script.specs.declared.outcome.Outcome.TheVariants.{Done, Memory, HistoryFull, Input, Output}
 
-module _ (notes notes' : Notes) (caller : ℕ) (follows : (calls : List Exchange) (begun : Option Begun) → notes calls begun → notes' calls begun) where
+module _ (notes notes' : Notes) (caller : ℕ) (follows : (calls : List Exchange) (end : Option Failure) → notes calls end → notes' calls end) where
+  broken_off : (fault : Fault) (calls : List ScriptCall) (turn moment : ℕ) (before : List Exchange) → AreBrokenOff fault calls caller turn moment before notes
+      → AreBrokenOff fault calls caller turn moment before notes'
+  broken_off fault calls turn moment before cut =
+      record { answers = cut.answers; kinds = cut.kinds; failure = cut.failure; next = cut.next; noted = follows _ _ cut.noted }
+
   cut_as : (fault : Fault) (calls : List ScriptCall) (turn moment : ℕ) (before : List Exchange) → AreCutOff fault calls caller turn moment before notes
       → AreCutOff fault calls caller turn moment before notes'
-  cut_as fault calls turn moment before cut = record {
-    answers = cut.answers;
-    part = cut.part;
-    kinds = cut.kinds;
-    begun = cut.begun;
-    next = cut.next;
-    noted = follows _ _ cut.noted;
-  }
+  cut_as fault calls turn moment before (inl cut) = inl (broken_off fault calls turn moment before cut)
+  cut_as fault calls turn moment before (inr part) = inr (part.0, record { answers = part.1.answers; kinds = part.1.kinds; noted = follows _ _ part.1.noted })
 
   may_be_as : (limits : Limits) (back : List Request) (answered : List Answered) → MayBeCutOff limits back answered notes caller → MayBeCutOff limits back answered notes' caller
   may_be_as limits [] answered calls = follows _ _ calls
@@ -72,46 +71,20 @@ module _ (notes notes' : Notes) (caller : ℕ) (follows : (calls : List Exchange
     leaves_as Output bytes left leaves = broken_as bytes left leaves
 
   module _ (limits : Limits) (work : List Request) where
-    broken_off_as : HasBrokenOff limits work notes caller → HasBrokenOff limits work notes' caller
-    broken_off_as off = record {
+    broken_off_as : (fault : Fault) → HasBrokenOff fault limits work notes caller → HasBrokenOff fault limits work notes' caller
+    broken_off_as fault off = record {
       answered = off.answered;
       request = off.request;
       back = off.back;
       asked = off.asked;
       whole = off.whole;
-      cut = cut_as _ _ _ _ _ off.cut;
+      cut = broken_off fault _ _ _ _ off.cut;
     }
 
     -- what upkeep leaves, by how it ended
     pub keeps_up_as : (outcome : Outcome) → KeepsUp outcome limits work notes caller → KeepsUp outcome limits work notes' caller
     keeps_up_as Done kept = record { answered = kept.answered; asked = kept.asked; whole = kept.whole; calls = follows _ _ kept.calls }
-    keeps_up_as Memory kept = broken_off_as kept
-    keeps_up_as HistoryFull kept = broken_off_as kept
+    keeps_up_as Memory kept = broken_off_as _ kept
+    keeps_up_as HistoryFull kept = broken_off_as _ kept
     keeps_up_as Input kept = kept
     keeps_up_as Output kept = kept
-
--- some calls are known of a caller
-abbrev pub KnowsSome : Notes → Type 0
-KnowsSome notes = (calls : List Exchange) × (begun : Option Begun) × notes calls begun
-
--- however a run ended, some calls of it are known
-pub leaves_some : (limits : Limits) (bytes left start taken : List ℕ) (notes : Notes) (caller : ℕ) (outcome : Outcome)
-    → Leaves outcome limits bytes left start taken notes caller → KnowsSome notes
-leaves_some limits bytes left start taken notes caller Done ended = (_, _, ended.run.calls)
-leaves_some limits bytes left start taken notes caller Input leaves = (_, _, leaves.run.calls)
-leaves_some limits bytes left start taken notes caller Memory (inl stopped) = (_, _, stopped.cut.noted)
-leaves_some limits bytes left start taken notes caller Memory (inr starved) = (_, _, starved.run.run.calls)
-leaves_some limits bytes left start taken notes caller HistoryFull stopped = (_, _, stopped.cut.noted)
-leaves_some limits bytes left start taken notes caller Output broken = some broken.back broken.answered broken.calls
-  where
-    some : (back : List Request) (answered : List Answered) → MayBeCutOff limits back answered notes caller → KnowsSome notes
-    some [] answered calls = (_, _, calls)
-    some (r ∷ rs) answered cut = let off = cut.1 in (_, _, off.noted)
-
--- and so are some of upkeep
-pub keeps_some : (limits : Limits) (work : List Request) (notes : Notes) (caller : ℕ) (outcome : Outcome) → KeepsUp outcome limits work notes caller → KnowsSome notes
-keeps_some limits work notes caller Done kept = (_, _, kept.calls)
-keeps_some limits work notes caller Memory off = (_, _, off.cut.noted)
-keeps_some limits work notes caller HistoryFull off = (_, _, off.cut.noted)
-keeps_some limits work notes caller Input kept = absurd kept
-keeps_some limits work notes caller Output kept = absurd kept

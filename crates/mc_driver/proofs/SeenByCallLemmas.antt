@@ -24,7 +24,7 @@ use Rattle.mc_store.specs.{Calls.IsJuggledBy, Calls.IsJuggledWith, Calls.IsLimit
 use Rattle.mc_store.specs.Hits.{AreAdvanced}
 use Rattle.mc_store.specs.{Crawls.HasReclaims, Crawls.IsCrawledBy, Earned.IsLastResort, Headline.answered_did, Passes.PassView, Passes.next_who, Reached.IsSeenState, Reached.IsStateBetween, Reached.seen_stripes}
 use Rattle.mc_store.proofs.{EarnedRefusalLemmas.once_more, EarnedRefusalLemmas.opened_again, LockKeepsLemmas.heard_stripe, LockKeepsLemmas.site_of_number, ReachedLemmas.state_wider}
-use Rattle.mc_driver.specs.{Caller.EntersOnly, Caller.IsBefore, Caller.histories_seen, Noted.answered_event, Noted.stripe_with, Searched.NotesSearchFor, Searched.with_stripe}
+use Rattle.mc_driver.specs.{Caller.EntersOnly, Caller.IsBefore, Stand.histories_seen, Noted.answered_event, Noted.stripe_with, Searched.NotesSearchFor, Searched.with_stripe}
 use Rattle.mc_driver.specs.Stand.{Grow, StandsBetween, stripe_number}
 use Rattle.mc_driver.proofs.{EnteredCallLemmas.entered_only, EnteredCallLemmas.stands_within, NotedPlaceLemmas.class_begins, NotedPlaceLemmas.stripe_begins}
 use Rattle.mc_driver.proofs.OnlyCallsLemmas.{is_same, is_yes}

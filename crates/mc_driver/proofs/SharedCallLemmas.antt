@@ -1,12 +1,11 @@
 -- What a call on a store that threads share leaves of what its pass knows.
 use Rattle.std.proofs.Common.{◌≡◌, ◌+◌, ◌<◌, ◌≤◌, ℕ, List, [], ◌∷◌, ◌++◌, Result, Ok, Err, refl, sym, ap, ◌∙◌, append-nil, subst, arith, length, length-append, ◌⊎◌, inl, inr, ⊎_elim}
-use Rattle.std.specs.Prelude.{IfOk, None, OnErr, Some, cond, nat_eq, true, IsErrOf, OnOk, IfErr}
+use Rattle.std.specs.Prelude.{IfOk, None, Some, cond, nat_eq, true, OnOk, IfErr}
 use Rattle.std.specs.List.{slice_get}
 use Rattle.std.proofs.lemmas.{List.Elements.filter-append, Option.slice_get_within}
 use Rattle.mc_item.specs.declared.{call_event.CallEvent.CallEvent, command.Command.Command, config.Config.Config, counts.Moves.Moves, fault.Fault.Fault}
 use Rattle.mc_item.specs.declared.{item.ClassNo.ClassNo, item.Who.Who, reply.Reply.Reply, stripe_event.Did.Did, stripe_event.StripeEvent.StripeEvent}
 use Rattle.mc_item.specs.declared.{counts.Histogram.Histogram}
-use Rattle.mc_item.specs.declared.fault.Fault.TheVariants.{HistoryFull}
 use Rattle.mc_item.specs.declared.stripe_event.StripeEvent.TheVariants as events
 use Rattle.mc_board.specs.Histories.{Grows, list_at}
 use Rattle.mc_board.proofs.PrefixLemmas.{prefix_length}
@@ -17,13 +16,14 @@ use Rattle.mc_evidence.proofs.SeenLemmas.{stripe_events-map}
 use Rattle.mc_segment.specs.ClassCalls.{limited_event}
 use Rattle.mc_proto.specs.Answers.{Answer, Counted, Limited, Moved, Replied}
 use Rattle.mc_script.specs.{Calls.AddsCalls, Calls.AddsUp, Calls.BreaksOff, Calls.GoesOn, Calls.MakesCalls, Exchanges.Asks, Exchanges.Begun, Exchanges.Crawls, Exchanges.Exchange}
+use Rattle.mc_script.specs.Exchanges.{Unbegun}
 use Rattle.mc_script.specs.Exchanges.{IsOfKind, IsReplyTo, Juggles, Limits, ScriptCall, exchange}
 use Rattle.mc_store.specs.Callers.{answered_at, asked_for, turns_of}
 use Rattle.mc_store.specs.{Calls.IsJuggledBy, Calls.IsLimitedBy, Calls.IsRepliedBy, Calls.IsUnbegun, Crawls.IsCrawledBy}
 use Rattle.mc_store.specs.{Locked.setting_of, Passes.PassView, Passes.next_who}
 use Rattle.mc_driver.specs.{Called.AreInTurn, Called.call_event_of}
-use Rattle.mc_driver.specs.Caller.{AreAt, AreNoted, AreRising, EntersOnly, IsAt, IsBefore, MayCall, histories_seen, places_in, view_of}
-use Rattle.mc_driver.specs.Stand.{BreaksOffAfter, Grow, StandFrom, StandsBetween, calls_at, is_command_at, nothing_seen, stripe_number}
+use Rattle.mc_driver.specs.Caller.{AreAt, AreNoted, AreRising, EntersOnly, IsAt, IsBefore, MayCall, places_in, view_of}
+use Rattle.mc_driver.specs.Stand.{BreaksOffAfter, Grow, StandFrom, StandsBetween, StandsLast, calls_at, histories_seen, is_command_at, nothing_seen, stripe_number}
 use Rattle.mc_driver.proofs.NotedPlaceLemmas.{at_later, at_push_if, get_next, places_in-push, rising_push_if, stripe_begins, places_in-call}
 use Rattle.mc_driver.proofs.SeenByCallLemmas.{crawled_between, juggled_between, limited_between, replied_between, seen_grow}
 use Rattle.mc_driver.proofs.EnteredCallLemmas.{Gains, before_more, entered_still, gains_none}
@@ -120,10 +120,10 @@ reply_fits config old new command moment reply by =
     }
 
 -- how a call that broke off leaves what its pass knows: with the call in its caller's history, and its beginning in what was seen
-abbrev pub IsBegun : Config → PassView → PassView → ScriptCall → ℕ → Type 0
-IsBegun config old new made moment =
+abbrev pub IsBegun : Config → PassView → PassView → ScriptCall → ℕ → Fault → Type 0
+IsBegun config old new made moment fault =
     (new.calls ≡ old.calls ++ call_event_of made moment ∷ [])
-    × (IsBefore old.turn old.made → BreaksOffAfter (EntersOnly new) config (histories_seen config old.sight) (histories_seen config new.sight) (next_who old) (record { call = made; moment = moment }))
+    × (IsBefore old.turn old.made → BreaksOffAfter (EntersOnly new) (λ sight. sight ≡ new.sight) config (histories_seen config old.sight) (histories_seen config new.sight) (next_who old) made moment fault)
 
 -- however a call ends, its account gained only spans of its turn
 pub call_gains : {T : Type 0} (config : Config) (old new : PassView) (r : Result T Fault) {By : T → Type 0} {Till : Fault → Type 0} → IfOk r By
@@ -221,28 +221,45 @@ module _ (config : Config) (old new : PassView) (same : new.caller ≡ old.calle
       let turn : old.turn ≡ length calls = omega (arith, may.turns, ap length noted.turns, turns_for-length calls) in
       ap (λ (n : ℕ). record { caller = old.caller; turn = n }) turn ∙ ap (λ (k : ℕ). record { caller = k; turn = length calls }) (sym same)
 
-  -- a call that went wrong is the last one begun, unless nothing happened
-  breaks_off : (made : ScriptCall) (moment : ℕ) → (new ≡ old) ⊎ IsBegun config old new made moment → BreaksOff made moment (view_of config old) (view_of config new)
-  breaks_off made moment (inl is) = record { at = λ calls noted. (None, tt, subst (λ (p : PassView). AreNoted config p calls None) (sym is) noted) }
-  breaks_off made moment (inr more) =
-      let begun : Begun = record { call = made; moment = moment } in
+  -- a call that failed was begun, or nothing happened
+  breaks_off : (made : ScriptCall) (moment : ℕ) (fault : Fault) → IsUnbegun config old new fault ⊎ IsBegun config old new made moment fault
+      → BreaksOff fault made moment (view_of config old) (view_of config new)
+  breaks_off made moment fault (inl early) = record {
+    at = λ calls noted. (
+      Unbegun fault,
+      inl refl,
+      subst (λ (p : PassView). AreNoted config p calls (Some (Unbegun fault))) (sym early.0) (record {
+        stand = stand_rest (EntersOnly old) config nothing_seen calls (λ reached. Grow config reached (histories_seen config old.sight))
+            (StandsLast (EntersOnly old) (λ sight. sight ≡ old.sight) config (histories_seen config old.sight) (record { caller = old.caller; turn = length calls }) (Some (Unbegun fault)))
+            (λ reached grown. (grown, λ full. let most = early.1 full in omega (arith, most, may.turns, ap length noted.turns, turns_for-length calls)))
+            noted.stand;
+        at = noted.at;
+        rising = noted.rising;
+        own = noted.own;
+        turns = noted.turns;
+        before = noted.before;
+      }),
+    );
+  }
+  breaks_off made moment fault (inr more) =
       let event = call_event_of made moment in
       let turn = call_event_of-turn made moment in
       let seen = histories_seen config old.sight in
       let now = histories_seen config new.sight in
       record {
         at = λ calls noted. (
-          Some begun,
-          (refl, refl),
+          Begun made moment fault,
+          inr refl,
           record {
-            stand = stand_rest (EntersOnly new) config nothing_seen calls (λ reached. Grow config reached seen) (λ reached. BreaksOffAfter (EntersOnly new) config reached now (next_of calls) begun)
-                (λ reached grown. subst (λ (w : Who). BreaksOffAfter (EntersOnly new) config reached now w begun) (next_is calls noted)
-                (breaks_after (EntersOnly new) config reached seen now now (next_who old) begun grown (grow_self config now) (more.1 (earlier calls noted))))
+            stand = stand_rest (EntersOnly new) config nothing_seen calls (λ reached. Grow config reached seen)
+                (λ reached. BreaksOffAfter (EntersOnly new) (λ sight. sight ≡ new.sight) config reached now (next_of calls) made moment fault)
+                (λ reached grown. subst (λ (w : Who). BreaksOffAfter (EntersOnly new) (λ sight. sight ≡ new.sight) config reached now w made moment fault) (next_is calls noted)
+                (breaks_after (EntersOnly new) (λ sight. sight ≡ new.sight) config reached seen now now (next_who old) made moment fault grown (grow_self config now) (more.1 (earlier calls noted))))
                 (stand_still calls noted);
             at = λ n below. kept_at event turn more.0 calls noted n below;
             rising = λ n below. kept_rising event turn more.0 calls noted n below;
             own = subst (λ (k : ℕ). AreInTurn k calls) (sym same) noted.own;
-            turns = turns_begun old.calls new.calls calls begun more.0 noted.turns;
+            turns = turns_begun old.calls new.calls calls made moment fault more.0 noted.turns;
             before = before_next calls noted event (ap turns_of more.0 ∙ turns_of-call old.calls event turn);
           },
         );
@@ -287,17 +304,16 @@ module _ (config : Config) (old new : PassView) (same : new.caller ≡ old.calle
 
   -- and what went wrong breaks off
   pub call_failed : {T : Type 0} (made : ScriptCall) (moment : ℕ) (r : Result T Fault) {Till : Fault → Type 0} → IfErr r (λ fault. IsUnbegun config old new fault ⊎ Till fault)
-      → ((fault : Fault) → Till fault → IsBegun config old new made moment) → OnErr r (BreaksOff made moment (view_of config old) (view_of config new))
+      → ((fault : Fault) → Till fault → IsBegun config old new made moment fault) → IfErr r (λ fault. BreaksOff fault made moment (view_of config old) (view_of config new))
   call_failed made moment (Ok x) cut begun = tt
-  call_failed made moment (Err fault) cut begun = breaks_off made moment (⊎_elim (λ early. inl early.0) (λ till. inr (begun fault till)) cut)
+  call_failed made moment (Err fault) cut begun = breaks_off made moment fault (⊎_elim (λ early. inl early) (λ till. inr (begun fault till)) cut)
 
 -- a call leaves its caller, which may call again after it
 pub goes_on : {T : Type 0} (config : Config) (old new : PassView) (r : Result T Fault) → MayCall config old → new.caller ≡ old.caller → new.turn ≡ length (turns_of new.calls)
-    → (IsErrOf r HistoryFull → (view_of config new).is_full) → GoesOn (view_of config old) (view_of config new) r
-goes_on config old new r may same turn full = record {
+    → GoesOn (view_of config old) (view_of config new) r
+goes_on config old new r may same turn = record {
   same = record { caller = same; classes = λ class. (λ has. has, λ has. has) };
   may = may_again config old new r may turn;
-  full = full;
 }
 
 -- where a class was crawled, each entry that was seen is counted as one kind

@@ -5,12 +5,13 @@ use Rattle.std.specs.List.{slice_get}
 use mathlib.Core.List.{IsPrefix}
 use Rattle.mc_item.specs.declared.{class_event.ClassEvent.ClassEvent, command.Command.Command, config.Config.Config, counts.Histogram.Histogram}
 use Rattle.mc_item.specs.declared.{counts.Moves.Moves, item.ClassNo.ClassNo, item.Who.Who, reply.Reply.Reply, stripe_event.StripeEvent.StripeEvent}
-use Rattle.mc_item.specs.declared.{answer.Need.Need, event.Event.Event, item.StripeNo.StripeNo, stripe_event.Did.Did}
+use Rattle.mc_item.specs.declared.{answer.Need.Need, event.Event.Event, fault.Fault.Fault, item.StripeNo.StripeNo, stripe_event.Did.Did}
+use Rattle.mc_board.specs.declared.rule.Sight.{Sight}
 use Rattle.mc_board.proofs.PrefixLemmas.{prefix_nil, prefix_self, prefix_trans}
 use Rattle.mc_evidence.specs.{Refusals.WasTried, Setting.IsClass, Setting.site_in}
 use Rattle.mc_evidence.proofs.EvidenceGrowthLemmas.{tried_later}
 use Rattle.mc_proto.specs.Answers.{Answer, Counted, Limited, Moved, Replied}
-use Rattle.mc_script.specs.Exchanges.{Asks, Begun, Crawls, Exchange, Juggles, Limits, ScriptCall}
+use Rattle.mc_script.specs.Exchanges.{Asks, Begun, Crawls, Exchange, Failure, Juggles, Limits, ScriptCall, Unbegun}
 use Rattle.mc_segment.specs.ClassCalls.{limited_event, refused_event}
 use Rattle.mc_store.specs.{Accounts.Stretch, Crawls.HasReclaims, Earned.IsLastResort, Headline.answered_did, Locked.setting_of, Sides.class_told}
 use Rattle.mc_pull.specs.Rounds.{rounds}
@@ -331,34 +332,46 @@ module _ (makes : Who → ((lock place : ℕ) → Event → Type 0) → Type 0) 
       (stand_grows config stand.reached histories calls stand.behind) between.placed between.stands)
   stand_at config seen histories (first ∷ calls) (suc turn) call stand at = stand_at config stand.reached histories calls turn call stand.behind at
 
-  -- ---- the call that broke off
+-- ---- the call that failed
 
-  breaks_on : (config : Config) (less seen old new : Histories) (who : Who) (moment : ℕ) (call : ScriptCall) → Grow config less seen → Grow config old new → IsPlaced config call
-      → BreaksOffAs makes config seen old who moment call → BreaksOffAs makes config less new who moment call
+module _ (makes : Who → ((lock place : ℕ) → Event → Type 0) → Type 0) (Saw : Sight → Type 0) where
+  breaks_on : (config : Config) (less seen old new : Histories) (who : Who) (moment : ℕ) (call : ScriptCall) (fault : Fault) → Grow config less seen → Grow config old new → IsPlaced config call
+      → BreaksOffAs makes Saw config seen old who moment call fault → BreaksOffAs makes Saw config less new who moment call fault
   unfolding command_cut_on juggling_cut_on crawling_cut_on
-  breaks_on config less seen old new who moment (Asks command) begins grow placed left =
-      let number = stripe_number config.stripes command in
-      (command_cut_on config number _ _ _ _ old.classes new.classes who command moment placed begins.stripes grow.stripes grow.classes left.0, left.1)
-  breaks_on config less seen old new who moment (Juggles class) begins grow placed left =
-      (juggling_cut_on config _ _ _ _ _ _ _ _ who class moment begins.stripes grow.stripes (begins.classes class placed) (grow.classes class placed) left.0, left.1)
-  breaks_on config less seen old new who moment (Crawls class) begins grow placed left =
-      (crawling_cut_on config _ _ _ _ _ _ _ _ who class moment begins.stripes grow.stripes (begins.classes class placed) (grow.classes class placed) left.0, left.1)
-  breaks_on config less seen old new who moment (Limits class n) begins grow placed left = left
+  breaks_on config less seen old new who moment (Asks command) fault begins grow placed left =
+      let number = stripe_number config.stripes command in (
+        command_cut_on config number _ _ _ _ old.classes new.classes who command moment placed begins.stripes grow.stripes grow.classes left.0,
+        left.1,
+        left.2,
+      )
+  breaks_on config less seen old new who moment (Juggles class) fault begins grow placed left = (
+    juggling_cut_on config _ _ _ _ _ _ _ _ who class moment begins.stripes grow.stripes (begins.classes class placed) (grow.classes class placed) left.0,
+    left.1,
+    left.2,
+  )
+  breaks_on config less seen old new who moment (Crawls class) fault begins grow placed left = (
+    crawling_cut_on config _ _ _ _ _ _ _ _ who class moment begins.stripes grow.stripes (begins.classes class placed) (grow.classes class placed) left.0,
+    left.1,
+    left.2,
+  )
+  breaks_on config less seen old new who moment (Limits class n) fault begins grow placed left = left
 
   -- it broke off after less that was seen, too, in histories that grow
-  pub breaks_after : (config : Config) (less seen old new : Histories) (who : Who) (begun : Begun) → Grow config less seen → Grow config old new → BreaksOffAfter makes config seen old who begun
-      → BreaksOffAfter makes config less new who begun
-  breaks_after config less seen old new who begun begins grow broke = record {
+  pub breaks_after : (config : Config) (less seen old new : Histories) (who : Who) (call : ScriptCall) (moment : ℕ) (fault : Fault) → Grow config less seen → Grow config old new
+      → BreaksOffAfter makes Saw config seen old who call moment fault → BreaksOffAfter makes Saw config less new who call moment fault
+  breaks_after config less seen old new who call moment fault begins grow broke = record {
     grew = grow_trans config less seen new begins (grow_trans config seen old new broke.grew grow);
     placed = broke.placed;
-    left = breaks_on config less seen old new who begun.moment begun.call begins grow broke.placed broke.left;
+    left = breaks_on config less seen old new who moment call fault begins grow broke.placed broke.left;
   }
 
   -- what histories have after the answered calls, longer ones have
-  pub stand_last_later : (config : Config) (old new : Histories) (who : Who) (begun : Option Begun) → Grow config old new → (reached : Histories) → StandsLast makes config old who begun reached
-      → StandsLast makes config new who begun reached
-  stand_last_later config old new who None grow reached end = grow_trans config reached old new end grow
-  stand_last_later config old new who (Some begun) grow reached end = breaks_after config reached reached old new who begun (grow_self config reached) grow end
+  pub stand_last_later : (config : Config) (old new : Histories) (who : Who) (end : Option Failure) → Grow config old new → (reached : Histories) → StandsLast makes Saw config old who end reached
+      → StandsLast makes Saw config new who end reached
+  stand_last_later config old new who None grow reached last = grow_trans config reached old new last grow
+  stand_last_later config old new who (Some (Unbegun fault)) grow reached last = (grow_trans config reached old new last.0 grow, last.1)
+  stand_last_later config old new who (Some (Begun call moment fault)) grow reached last =
+      breaks_after config reached reached old new who call moment fault (grow_self config reached) grow last
 
 module _ (makes makes' : Who → ((lock place : ℕ) → Event → Type 0) → Type 0) where
   -- what is known of a call's events may be said by another fact that follows
@@ -389,16 +402,18 @@ module _ (makes makes' : Who → ((lock place : ℕ) → Event → Type 0) → T
         behind = stand_by config stand.reached calls end end' (λ k next at Suits. follows (suc k) next at Suits) at_end stand.behind;
       }
 
-  breaks_by : (config : Config) (seen histories : Histories) (who : Who) (moment : ℕ) (call : ScriptCall) → ((Suits : (lock place : ℕ) → Event → Type 0) → makes who Suits → makes' who Suits)
-      → BreaksOffAs makes config seen histories who moment call → BreaksOffAs makes' config seen histories who moment call
-  breaks_by config seen histories who moment (Asks command) follows left = (left.0, follows _ left.1)
-  breaks_by config seen histories who moment (Juggles class) follows left = (left.0, follows _ left.1)
-  breaks_by config seen histories who moment (Crawls class) follows left = (left.0, follows _ left.1)
-  breaks_by config seen histories who moment (Limits class n) follows left = follows _ left
+module _ (makes makes' : Who → ((lock place : ℕ) → Event → Type 0) → Type 0) (Saw Saw' : Sight → Type 0) (saw : (sight : Sight) → Saw sight → Saw' sight) where
+  breaks_by : (config : Config) (seen histories : Histories) (who : Who) (moment : ℕ) (call : ScriptCall) (fault : Fault) → ((Suits : (lock place : ℕ) → Event → Type 0) → makes who Suits → makes' who Suits)
+      → BreaksOffAs makes Saw config seen histories who moment call fault → BreaksOffAs makes' Saw' config seen histories who moment call fault
+  breaks_by config seen histories who moment (Asks command) fault follows left = (left.0, follows _ left.1, λ full. let found = left.2 full in (found.0, saw found.0 found.1, found.2))
+  breaks_by config seen histories who moment (Juggles class) fault follows left = (left.0, follows _ left.1, λ full. let found = left.2 full in (found.0, saw found.0 found.1, found.2))
+  breaks_by config seen histories who moment (Crawls class) fault follows left = (left.0, follows _ left.1, λ full. let found = left.2 full in (found.0, saw found.0 found.1, found.2))
+  breaks_by config seen histories who moment (Limits class n) fault follows left = (follows _ left.0, λ full. let found = left.1 full in (found.0, saw found.0 found.1, found.2))
 
-  -- and of the call that broke off
-  pub stand_last_by : (config : Config) (histories : Histories) (who : Who) (begun : Option Begun) → ((Suits : (lock place : ℕ) → Event → Type 0) → makes who Suits → makes' who Suits) → (reached : Histories)
-      → StandsLast makes config histories who begun reached → StandsLast makes' config histories who begun reached
-  stand_last_by config histories who None follows reached end = end
-  stand_last_by config histories who (Some begun) follows reached end =
-      record { grew = end.grew; placed = end.placed; left = breaks_by config reached histories who begun.moment begun.call follows end.left }
+  -- and of the call that failed
+  pub stand_last_by : (config : Config) (histories : Histories) (who : Who) (end : Option Failure) → ((Suits : (lock place : ℕ) → Event → Type 0) → makes who Suits → makes' who Suits) → (reached : Histories)
+      → StandsLast makes Saw config histories who end reached → StandsLast makes' Saw' config histories who end reached
+  stand_last_by config histories who None follows reached last = last
+  stand_last_by config histories who (Some (Unbegun fault)) follows reached last = last
+  stand_last_by config histories who (Some (Begun call moment fault)) follows reached last =
+      record { grew = last.grew; placed = last.placed; left = breaks_by config reached histories who moment call fault follows last.left }

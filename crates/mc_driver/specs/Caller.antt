@@ -1,20 +1,15 @@
 -- What a caller of a shared store knows of its calls so far, by its pass. A pass has the caller's history and what it has seen.
-use Rattle.std.specs.Prelude.{ℕ, ◌≡◌, ◌<◌, ◌≤◌, ◌+◌, ◌⊎◌, List, [], ◌∷◌, Option, Some, IsSomeAnd, if◌then◌else◌, nat_eq, slice_get, length}
+use Rattle.std.specs.Prelude.{ℕ, ◌≡◌, ◌<◌, ◌≤◌, ◌+◌, List, [], ◌∷◌, Option, Some, IsSomeAnd, if◌then◌else◌, nat_eq, slice_get, length}
 use Rattle.mc_item.specs.declared.{config.Config.Config, call_event.CallEvent.CallEvent, event.Event.Event, item.Who.Who, stripe_event.Did.Did}
 use Rattle.mc_item.specs.declared.stripe_event.StripeEvent.{StripeEvent}
 use Rattle.mc_item.specs.declared.call_event.CallEvent.TheVariants as calls
 use Rattle.mc_item.specs.declared.stripe_event.StripeEvent.TheVariants as events
-use Rattle.mc_board.specs.declared.{rule.Sight.Sight, rule.Span.Span}
+use Rattle.mc_board.specs.declared.{rule.Span.Span}
 use Rattle.mc_board.specs.{Accounts.IsEntered, Accounts.maker_in, Histories.list_at}
-use Rattle.mc_evidence.specs.{Seen.classes_seen, Seen.stripes_seen, Setting.IsClass}
-use Rattle.mc_script.specs.{Calls.CallsView, Exchanges.Begun, Exchanges.Exchange}
-use Rattle.mc_store.specs.{Passes.PassView, Callers.turns_of, Locked.setting_of, Serving.HasSeenShort}
-use Rattle.mc_driver.specs.{Called.AreInTurn, Called.turns_for, Noted.exchange_of, Stand.Histories, Stand.Stand, Stand.calls_at}
-
--- the histories of a store, as far as a token has seen them
-abbrev pub histories_seen : Config → Sight → Histories
-histories_seen config sight =
-    record { stripes = stripes_seen (list_at sight.seen); classes = classes_seen config.stripes (list_at sight.seen) }
+use Rattle.mc_evidence.specs.{Seen.stripes_seen, Setting.IsClass}
+use Rattle.mc_script.specs.{Calls.CallsView, Exchanges.Exchange, Exchanges.Failure}
+use Rattle.mc_store.specs.{Passes.PassView, Callers.turns_of, Locked.setting_of}
+use Rattle.mc_driver.specs.{Called.AreInTurn, Called.turns_for, Noted.exchange_of, Stand.Stand, Stand.calls_at, Stand.histories_seen}
 
 -- the event at this place of a stripe's history is this call of this caller, with its answer
 pub record IsAt (history : List StripeEvent) (caller place : ℕ) (call : Exchange) : Type 0 where
@@ -53,15 +48,15 @@ pub record EntersOnly (pass : PassView) (who : Who) (Suits : (lock place : ℕ) 
 pub record IsBefore (turn : ℕ) (made : List Span) : Type 0 where
   pub each : (k : ℕ) (span : Span) → slice_get made k ≡ Some span → span.turn < turn
 
--- what a pass knows of its caller's calls: it has seen these in turn, each of this caller, and then the one that broke off if one did,
+-- what a pass knows of its caller's calls: it has seen these in turn, each of this caller, and then the one that failed if one did,
 -- with commands at just the places that the caller's history has; that history has just these calls; its account is of these turns
-pub record AreNoted (config : Config) (pass : PassView) (calls : List Exchange) (begun : Option Begun) : Type 0 where
-  pub stand : Stand (EntersOnly pass) config (histories_seen config pass.sight) pass.caller calls begun
+pub record AreNoted (config : Config) (pass : PassView) (calls : List Exchange) (end : Option Failure) : Type 0 where
+  pub stand : Stand (EntersOnly pass) (λ sight. sight ≡ pass.sight) config (histories_seen config pass.sight) pass.caller calls end
   pub at : (number : ℕ) → number < config.stripes
       → AreAt (stripes_seen (list_at pass.sight.seen) number) pass.caller (places_in number pass.calls) (calls_at config.stripes number calls)
   pub rising : (number : ℕ) → number < config.stripes → AreRising 0 (places_in number pass.calls)
   pub own : AreInTurn pass.caller calls
-  pub turns : turns_of pass.calls ≡ turns_for calls begun
+  pub turns : turns_of pass.calls ≡ turns_for calls end
   pub before : IsBefore (length (turns_of pass.calls)) pass.made
 
 -- a pass may make a call: there is a stripe, and the caller's history has a call for each turn
@@ -69,8 +64,7 @@ pub record MayCall (config : Config) (pass : PassView) : Type 0 where
   pub some : 0 < config.stripes
   pub turns : length (turns_of pass.calls) ≡ pass.turn
 
--- what a script's contracts see of a caller by its pass: a history is full if the pass saw one with too few places left, or has all
--- calls that it may
+-- what a script's contracts see of a caller by its pass
 abbrev pub view_of : Config → PassView → CallsView
 view_of config pass = record {
   caller = pass.caller;
@@ -78,5 +72,4 @@ view_of config pass = record {
   notes = AreNoted config pass;
   has_class = IsClass (setting_of config);
   may_call = MayCall config pass;
-  is_full = HasSeenShort config pass.sight ⊎ (config.max_events ≤ length (turns_of pass.calls));
 }

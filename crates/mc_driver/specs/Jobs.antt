@@ -1,11 +1,10 @@
 -- The work of a run's callers, and what holds after it (own).
-use Rattle.std.specs.Prelude.{ℕ, ◌≡◌, ◌<◌, ◌≤◌, ◌⊎◌, List, [], ◌∷◌, ◌++◌, None, length, map, slice_index_or}
+use Rattle.std.specs.Prelude.{ℕ, ◌≡◌, ◌<◌, List, [], ◌∷◌, ◌++◌, None, length, map, slice_index_or}
 use Rattle.mc_item.specs.declared.config.Config.{Config}
 use Rattle.mc_proto.specs.declared.request.Limits.{Limits}
 use Rattle.mc_script.specs.{Calls.Notes, Run.AreCounted, Run.HasLeft, Run.MayRunFrom, Upkeep.KeepsUp, Upkeep.work_of}
 use Rattle.mc_script.specs.declared.{outcome.Outcome.Outcome, upkeep.Keeper.TheVariants.Maintainer, upkeep.Keeper.TheVariants.Crawler}
-use Rattle.mc_script.specs.declared.outcome.Outcome.TheVariants as outcomes
-use Rattle.mc_store.specs.{Callers.turns_of, Passes.PassView, Serving.HasSeenShort}
+use Rattle.mc_store.specs.Passes.{PassView}
 use Rattle.mc_driver.specs.Caller.{AreNoted, MayCall}
 use Rattle.mc_driver.specs.declared.{jobs.Work.Work, jobs.Work.TheVariants.Script, jobs.Work.TheVariants.Upkeep}
 
@@ -51,4 +50,3 @@ module _ {E : Type 0} (gave : E → E → List ℕ → Type 0) (at_end : E → T
   pub record HasWorked (config : Config) (limits : Limits) (moments : List ℕ) (pass pass' : PassView) (outcome : Outcome) (work work' : Work E) : Type 0 where
     pub works : Works gave at_end taken reads writes limits moments (AreNoted config pass') pass.caller outcome work work'
     pub caller : pass'.caller ≡ pass.caller
-    pub full : outcome ≡ outcomes.HistoryFull → HasSeenShort config pass'.sight ⊎ (config.max_events ≤ length (turns_of pass'.calls))

@@ -5,7 +5,7 @@ use Rattle.mc_script.specs.{Run.AreCounted, Run.HasLeft, Upkeep.KeepsUp, Upkeep.
 use Rattle.mc_script.specs.declared.{outcome.Outcome.Outcome, upkeep.Keeper.Keeper, upkeep.Keeper.TheVariants.Maintainer, upkeep.Keeper.TheVariants.Crawler}
 use Rattle.mc_script.specs.declared.outcome.Outcome.TheVariants as outcomes
 use Rattle.mc_store.specs.Finals.{FinalView}
-use Rattle.mc_driver.specs.{Called.AreByCallers, Called.AreItsCalls, Called.AreWholeTurns, Called.HasNoPlace, Stand.Histories}
+use Rattle.mc_driver.specs.{Called.AreByCallers, Called.AreItsCalls, Called.AreWholeTurns, Stand.Histories}
 use Rattle.mc_driver.specs.Run.{IsStore, callers_at_work, histories_left, limits_of}
 
 -- what holds after upkeep at these moments with this outcome: the histories have its calls in turn, and nothing else of its caller
@@ -27,8 +27,7 @@ module _ {E : Type 0} (gave : E → E → List ℕ → Type 0) (at_end : E → T
 
   -- what holds after a run of scripts, with upkeep at these moments, on a store of this configuration. Maintainer and crawler made
   -- the calls at these moments, or by their outcomes a beginning of them, in turn, and no others. Without moments both are done.
-  -- After `HistoryFull` a stripe's history has no place left, a class's has fewer than two, or the caller has made `max_events` calls. If
-  -- a caller is done, each of its events has its call, at the same moment. Nobody else made an event, and the store is sound.
+  -- If a caller is done, each of its events has its call, at the same moment. Nobody else made an event, and the store is sound.
   pub record IsRunDone (config : Config) (moments : List ℕ) (scripts ends : List E) (ended : List Outcome) (final : FinalView) : Type 0 where
     pub each : (i : ℕ) (d : E) (outcome : Outcome) → i < length scripts
         → IsScriptLeft config (histories_left final) i (slice_index_or scripts i d) (slice_index_or ends i d) (slice_index_or ended i outcome)
@@ -37,8 +36,6 @@ module _ {E : Type 0} (gave : E → E → List ℕ → Type 0) (at_end : E → T
     pub crawled : (outcome : Outcome) → IsKeptUp Crawler config moments (length scripts + 1) (slice_index_or ended (length scripts + 1) outcome)
         (histories_left final)
     pub idle : moments ≡ [] → AreKeepersDone (length scripts) ended
-    pub full : (i : ℕ) (outcome : Outcome) → i < length scripts + 2 → slice_index_or ended i outcome ≡ outcomes.HistoryFull
-        → HasNoPlace config i (histories_left final)
     pub whole : (i : ℕ) (outcome : Outcome) → i < length scripts + 2 → slice_index_or ended i outcome ≡ outcomes.Done
         → AreWholeTurns config i (histories_left final)
     pub by : AreByCallers config (callers_at_work (length scripts) moments) (histories_left final)

@@ -1,5 +1,5 @@
 -- Which runs are accepted, and the store that a run leaves.
-use Rattle.std.specs.Prelude.{ℕ, ◌≡◌, ◌<◌, ◌≤◌, ◌+◌, ◌-◌, ◌⊎◌, List, [], ◌∷◌, Some, None, length, slice_get, slice_index}
+use Rattle.std.specs.Prelude.{ℕ, ◌≡◌, ◌≤◌, ◌+◌, ◌-◌, List, [], ◌∷◌, Some, None, length, slice_get, slice_index}
 use Rattle.mc_item.specs.{Config.fault_of, Stripe.IsLegal}
 use Rattle.mc_item.specs.declared.{config.Config.Config, item.ClassNo.ClassNo}
 use Rattle.mc_evidence.specs.{Setting.site_in, Sound.IsSoundStore}
@@ -19,21 +19,7 @@ limits_of config = record { largest = slice_index config.sizes (length config.si
 
 -- the configuration for so many scripts: a caller for each, one for the maintainer, and one for the crawler
 abbrev pub with_callers : ℕ → Config → Config
-with_callers scripts config =
-    record {
-      stripes = config.stripes;
-      sizes = config.sizes;
-      chunks = config.chunks;
-      hot_percent = config.hot_percent;
-      warm_percent = config.warm_percent;
-      hot_factor = config.hot_factor;
-      warm_factor = config.warm_factor;
-      temp = config.temp;
-      temp_ttl = config.temp_ttl;
-      callers = scripts + 2;
-      max_events = config.max_events;
-      keeps_events = config.keeps_events;
-    }
+with_callers scripts config = record config { callers = scripts + 2 }
 
 -- so many scripts can run at once: 1 to 62
 abbrev pub CanRunAtOnce : ℕ → Type 0
@@ -83,20 +69,3 @@ pub record IsStore (config : Config) (final : FinalView) : Type 0 where
   pub each_class : (place : ℕ) (c : ClassSide) → slice_get final.classes place ≡ Some c → IsClassNumbered config (record { 0 = place + 1 }) c.class
   pub sound : IsSoundStore (setting_of config) (stripe_histories final.stripes) (class_histories final.classes)
   pub entries : AreExactlyEntries (setting_of config) (stripe_histories final.stripes) (class_histories final.classes)
-
--- a stripe of a configuration has no place left in its history
-pub record HasFullStripe (config : Config) (histories : Histories) : Type 0 where
-  pub number : ℕ
-  pub below : number < config.stripes
-  pub full : config.max_events ≤ length (histories.stripes number)
-
--- a slab class of a configuration has fewer than two places left in its history
-pub record HasFullClass (config : Config) (histories : Histories) : Type 0 where
-  pub number : ClassNo
-  pub first : 1 ≤ number.0
-  pub last : number.0 ≤ length config.sizes
-  pub full : config.max_events < length (histories.classes number) + 2
-
--- a stripe's history has no place left, or a slab class's fewer than two
-abbrev pub HasFull : Config → Histories → Type 0
-HasFull config histories = HasFullStripe config histories ⊎ HasFullClass config histories

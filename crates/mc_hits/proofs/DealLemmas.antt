@@ -19,12 +19,6 @@ half_dealt caller (suc k) (q ∷ qs) = dealer_at (caller + 1) q ∷ half_dealt c
 abbrev pub fresh : ℕ → List HitsView → List HandView
 fresh caller queues = map (λ (q : HitsView). untouched_hand q.table caller) queues
 
-pub half_dealt-length : (caller k : ℕ) (queues : List HitsView) → length (half_dealt caller k queues) ≡ length queues
-half_dealt-length caller zero [] = refl
-half_dealt-length caller zero (q ∷ qs) = ap suc (half_dealt-length caller zero qs)
-half_dealt-length caller (suc k) [] = refl
-half_dealt-length caller (suc k) (q ∷ qs) = ap suc (half_dealt-length caller k qs)
-
 -- the next dealer has not
 pub half_dealt-at : (caller k : ℕ) (queues : List HitsView) (d : DealerView) (q : HitsView) → k < length queues → q ≡ get_or queues k q
     → get_or (half_dealt caller k queues) k d ≡ dealer_at caller q

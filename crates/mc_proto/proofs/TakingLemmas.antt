@@ -1,7 +1,7 @@
 -- What each part of a piece makes of the reading so far.
 use Rattle.std.proofs.Common.{◌≡◌, ◌++◌, ◌∷◌, [], ◌+◌, ◌<◌, ◌≤◌, ℕ, List, length, refl, ap, sym, ◌∙◌, arith, append_assoc, take, drop, get_or, Bool, true}
 use Rattle.std.proofs.Common.{false, subst, inl, inr, take-append-drop, append-nil, length-append, ◌-◌, length-drop}
-use Rattle.std.specs.Prelude.{if◌then◌else◌, nat_eq, option_to_list}
+use Rattle.std.specs.Prelude.{if◌then◌else◌, nat_eq, option_to_list, Option, Some, None}
 use Rattle.std.specs.Cmp.Lexicographic.{pointwise}
 use Rattle.std.proofs.Math.Seq.{take-add}
 use Rattle.std.proofs.lemmas.List.{take_more, take_all, take-append-le, length-take-le}
@@ -10,7 +10,7 @@ use Rattle.mc_proto.specs.declared.{request.Limits.Limits, state.Start.Start, re
 use Rattle.mc_proto.specs.declared.{request.Request.Request, request.Request.TheVariants.Bad, request.Request.TheVariants.One, state.Said.Said}
 use Rattle.mc_proto.specs.declared.{state.State.State}
 use Rattle.mc_proto.specs.Grammar.{IsLine, Spells, Spelt, closes, closed, wanted, request_asked, stored, skipped, IsFine}
-use Rattle.mc_proto.specs.Reader.{StandsForRest, After, is_closed, state_after, request_after, Kept, kept}
+use Rattle.mc_proto.specs.Reader.{StandsForRest, After, is_closed, Kept, kept}
 use Rattle.mc_item.specs.declared.command.Command.TheVariants as commands
 use Rattle.mc_proto.specs.declared.state.Said.TheVariants as said
 use Rattle.mc_proto.specs.declared.state.State.TheVariants.{Line, Block, Skip, Closed}
@@ -119,6 +119,18 @@ pub line_skips : (limits : Limits) (u stream piece : List ℕ) (rs : List Reques
 line_skips limits u stream piece rs end s a l lf lack short is =
     goes limits Line (Skip s (s.count + 2)) u [] stream (take (end + 1) piece) rs a
     (u ++ take end piece, [], line_whole a.rest u piece end a.stands.0 l lf, is_line u piece end a.stands.1 l lack short, sym is, omega arith, omega arith) refl
+
+-- the state of a reader after a line that says this
+abbrev state_after : Said → State
+state_after (said.Whole r) = Line
+state_after (said.Block s) = Block s []
+state_after (said.Skip s) = Skip s (s.count + 2)
+
+-- the request of a line that says this, none if a block is to follow
+abbrev request_after : Said → Option Request
+request_after (said.Whole r) = Some r
+request_after (said.Block s) = None
+request_after (said.Skip s) = None
 
 -- a line that is whole, whatever it says
 pub line_done : (limits : Limits) (u v stream piece : List ℕ) (rs : List Request) (end : ℕ) (x : Said) → After limits Line u stream rs → end < length piece

@@ -2,7 +2,7 @@
 use Rattle.std.specs.Prelude.{ℕ, ◌+◌, ◌<◌, ◌≤◌, ◌≡◌, ◌==◌, List, [], ◌∷◌, ◌++◌, Bool, true, false, if◌then◌else◌, Option, Some, None, length}
 use Rattle.std.specs.List.{list_any}
 use Rattle.mc_proto.specs.{Lines.Lacks, Table.says, Grammar.IsLine, Grammar.Spelt, Grammar.closed}
-use Rattle.mc_proto.specs.declared.{request.Limits.Limits, request.Request.Request, request.Rest.Rest, state.Said.Said, state.State.State}
+use Rattle.mc_proto.specs.declared.{request.Limits.Limits, request.Request.Request, request.Rest.Rest, state.State.State}
 use Rattle.mc_proto.specs.declared.request.Rest.TheVariants as rests
 use Rattle.mc_proto.specs.declared.state.Said.TheVariants as said
 use Rattle.mc_proto.specs.declared.state.State.TheVariants.{Line, Block, Skip, Closed, Failed}
@@ -43,18 +43,6 @@ pub record After (limits : Limits) (state : State) (unread : List ℕ) (stream :
   pub spelt : Spelt limits stream requests rest
   pub stands : StandsForRest limits state unread rest
   pub closed_is : closed requests ≡ is_closed state
-
--- the state of a reader after a line that says this
-abbrev pub state_after : Said → State
-state_after (said.Whole r) = Line
-state_after (said.Block s) = Block s []
-state_after (said.Skip s) = Skip s (s.count + 2)
-
--- the request of a line that says this, none if a block is to follow
-abbrev pub request_after : Said → Option Request
-request_after (said.Whole r) = Some r
-request_after (said.Block s) = None
-request_after (said.Skip s) = None
 
 -- the bounds of what a reader keeps: no more than a line can have, less than a whole block, nothing if it is closed
 abbrev pub IsSoundReader : State → List ℕ → Type 0

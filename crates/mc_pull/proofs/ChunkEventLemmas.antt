@@ -119,9 +119,13 @@ module _ (c : ClassView) (q : Question) where
   taken_entry cache None off is = evicted_stranger (sym is)
   taken_entry cache (Some e) off is = taken_item e (cache.items e.key) off (done_is c cache q done.Evicted evicted_stranger (Some e) is)
 
+  -- what doesn't look for a chunk evicts nothing
+  pub evicts_nothing : (cache : Cache) → judge_looks q.judge ≡ false → done.Evicted ≡ done_of c cache q → ⊥
+  evicts_nothing cache off is = taken_entry cache (entry_of q.number (lists_of c.history)) off (sym is)
+
   suits_evicted : (cache : Cache) (at : ℕ) (looks : Bool) → judge_looks q.judge ≡ looks → done.Evicted ≡ done_of c cache q → All (SuitsWalk looks) (done_class_events c q at done.Evicted)
   suits_evicted cache at true on is = alone true _ tt
-  suits_evicted cache at false off is = absurd (taken_entry cache (entry_of q.number (lists_of c.history)) off (sym is))
+  suits_evicted cache at false off is = absurd (evicts_nothing cache off is)
 
   -- what is done makes only events of its kind of walk
   pub suits_done : (cache : Cache) (at : ℕ) (d : Done) → d ≡ done_of c cache q → All (SuitsWalk (judge_looks q.judge)) (done_class_events c q at d)

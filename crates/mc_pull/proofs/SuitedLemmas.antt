@@ -1,5 +1,5 @@
 -- Each command makes only events that it may make: of its own part, and of the removal of a dead item.
-use Rattle.std.proofs.Common.{◌≡◌, ℕ, List, [], Bool, true, false, Option, Some, None}
+use Rattle.std.proofs.Common.{◌≡◌, ℕ, List, [], ◌∷◌, Bool, true, false, Option, Some, None, refl}
 use Rattle.std.specs.Prelude.{◌&&◌, not, if◌then◌else◌}
 use Rattle.mc_item.specs.{Answer.delete_row, Answer.gat_row, Answer.get_row, Answer.let_go, Answer.touch_row, Cache.Cache, Cache.answer_of, Command.key_of, Item.expiry_of, Item.hit_marks}
 use Rattle.mc_item.specs.declared.{answer.Site.Site, class_event.ClassEvent.ClassEvent, command.Command.Command, command.Verb.Verb, item.Item.Item, item.Who.Who, reply.Room.Room}
@@ -12,21 +12,13 @@ use Rattle.mc_pull.specs.declared.{judge.Done.Done, judge.Judge.TheVariants.Dead
 use Rattle.mc_pull.specs.declared.judge.Done.TheVariants as done
 use Rattle.mc_pull.specs.declared.parts.Part.TheVariants as parts
 use Rattle.mc_pull.specs.{Judgement.done_of, Parts.entry_number, Parts.gone_part, Parts.part_events, Parts.part_for, Perform.Call, Performed.events_in, Question.question}
-use Rattle.mc_pull.specs.{Settled.done_class_events, Suited.AreSuited, Suited.MayNeedChunk, Suited.MayRemove}
-use Rattle.std.proofs.lemmas.List.Elements.{All-head}
-use Rattle.mc_pull.specs.Growth.{SuitsUpkeep}
-use Rattle.mc_pull.proofs.ChunkEventLemmas.{suits_done}
+use Rattle.mc_pull.specs.{Settled.done_class_events, Suited.MayNeedChunk, Suited.MayRemove, Suited.SuitsCommand}
+use Rattle.mc_pull.proofs.ChunkEventLemmas.{evicts_nothing}
 
--- a command that may need a chunk may remove an item
-pub needs_removes : (command : Command) → MayNeedChunk command → MayRemove command
-needs_removes (Store verb key flags exptime value) needs = tt
-needs_removes (Incr key delta) needs = tt
-needs_removes (Decr key delta) needs = tt
-needs_removes (Get key) needs = absurd needs
-needs_removes (Gat key exptime) needs = absurd needs
-needs_removes (Huge verb key) needs = absurd needs
-needs_removes (Touch key exptime) needs = absurd needs
-needs_removes (Delete key) needs = absurd needs
+-- a command may make each of these events
+abbrev pub AreSuited : Command → List ClassEvent → Type 0
+AreSuited command [] = Unit {0}
+AreSuited command (e ∷ es) = SuitsCommand command e × AreSuited command es
 
 -- any command may ask whether an item is dead
 pub suited_dead : (command : Command) (c : ClassView) (cache : Cache) (who : Who) (number moment at : ℕ) (d : Done) → d ≡ done_of c cache (question who number Dead moment)
@@ -35,7 +27,7 @@ suited_dead command c cache who number moment at done.Reclaimed is = (tt, tt)
 suited_dead command c cache who number moment at done.ToWarm is = tt
 suited_dead command c cache who number moment at done.WithinWarm is = tt
 suited_dead command c cache who number moment at done.ToCold is = tt
-suited_dead command c cache who number moment at done.Evicted is = absurd (All-head SuitsUpkeep _ [] (suits_done c (question who number Dead moment) cache at done.Evicted is))
+suited_dead command c cache who number moment at done.Evicted is = absurd (evicts_nothing c (question who number Dead moment) cache refl is)
 suited_dead command c cache who number moment at done.Stayed is = tt
 suited_dead command c cache who number moment at (done.Alive expiry) is = tt
 suited_dead command c cache who number moment at done.Stranger is = tt

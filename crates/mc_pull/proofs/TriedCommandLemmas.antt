@@ -71,7 +71,7 @@ module _ {s later : Stripe} {vs : List ClassView} {command : Command} {turn : Tu
   -- all that was made
   pub made_on : {ws : List ClassView} {woken : Option Link} (config : Config) → IsStripeOf config s → OfEachClass (IsClassOf config) vs
       → OfEachClass (λ v. IsLawfulHistoryByLists v.chunks v.rule v.history) vs → OfEachClass IsNumbered vs → woken ≡ woken_of done.fate → EachPair (GainsPart s called) vs ws
-      → IsMadeOn config s later command turn given vs ws done.reply woken
+      → IsMadeOn config s later command turn given vs ws (record { reply = done.reply; woken = woken })
   made_on {ws} config made_with classes lawful numbered woken_is gains =
       let may = may_perform s vs command turn given try.may fresh_at done.room done.fate try.made.uses config made_with classes in
       let performed : IsPerformed s later called vs ws = record { stripe = try.made.noted; classes = gains } in

@@ -2,7 +2,7 @@
 use Rattle.std.specs.Prelude.{ℕ, ◌≡◌, ◌<◌, ◌≤◌, ◌+◌, ◌^◌, ◌⊎◌, true, List, [], ◌∷◌, Option, Some, None, IfSome, IsSomeAnd, length, slice_get}
 use Rattle.mc_item.specs.{Command.key_of, Measure.stripe_of}
 use Rattle.mc_item.specs.declared.class_event.ClassEvent.TheVariants as class_events
-use Rattle.mc_item.specs.declared.{command.Command.Command, config.Config.Config, item.Link.Link, reply.Reply.Reply, reply.Room.Room, item.Who.Who}
+use Rattle.mc_item.specs.declared.{command.Command.Command, config.Config.Config, reply.Room.Room, item.Who.Who}
 use Rattle.mc_item.specs.declared.reply.Room.TheVariants as rooms
 use Rattle.mc_rule.specs.Lists as rules
 use Rattle.mc_rule.specs.Lists.{entries_linked}
@@ -10,7 +10,7 @@ use Rattle.mc_segment.specs.ClassState.{ClassView, HasPlaces as ClassHasPlaces}
 use Rattle.mc_stripe.specs.{Plan.woken_of, StripeState.Stripe, Trying.item_of, Trying.row_at, Wanting.IsWanting, Wanting.Uses}
 use Rattle.mc_stripe.specs.declared.{fate.Fate.Fate, wanting.Given.Given, wanting.Home.Home, wanting.Other.Other, trying.Turn.Turn}
 use Rattle.mc_stripe.specs.declared.fate.Fate.TheVariants as fates
-use Rattle.mc_pull.specs.declared.attempting.Tried.{Tried}
+use Rattle.mc_pull.specs.declared.{attempting.Replied.Replied, attempting.Tried.Tried}
 use Rattle.mc_pull.specs.declared.attempting.Tried.TheVariants as tried
 use Rattle.mc_pull.specs.{Agreeing.AgreeNow, Agreeing.KeepsAgreements, Lent.AreDistinct, Lent.OfEachClass, Perform.MayPerform, Perform.answer_to, Perform.call}
 use Rattle.mc_pull.specs.{Parts.is_here, Parts.part_for, Parts.places_of, Performed.IsPerformed, Performed.IsUntouched, Sight.KeepsSights}
@@ -90,22 +90,22 @@ pub record MayMakePart (v : ClassView) (key : List ℕ) (room : Room) (fate : Fa
   pub space : places_of (part_for v key room fate) ≤ v.room
   pub place : ClassHasPlaces v (places_of (part_for v key room fate))
 
--- a command was made in a room, of what it was given, as it may be made on these classes. This is its reply, and this the link of
--- the item that its hit made ACTIVE, if it did
-pub record IsMadeOn (config : Config) (s s_new : Stripe) (command : Command) (turn : Turn) (given : Given) (vs ws : List ClassView) (reply : Reply)
-    (woken : Option Link) : Type 0 where
+-- a command was made in a room, of what it was given, as it may be made on these classes, with this reply and this link of the item
+-- that its hit made ACTIVE, if it did
+pub record IsMadeOn (config : Config) (s s_new : Stripe) (command : Command) (turn : Turn) (given : Given) (vs ws : List ClassView) (replied : Replied)
+    : Type 0 where
   pub room : Room
   pub fate : Fate
   pub uses : Uses given (key_of command) (item_of s command) turn.moment (row_at s command turn.moment) room fate
   pub may : MayPerform config s (call turn.who command turn.moment room) vs
-  pub reply_is : reply ≡ (answer_to s (call turn.who command turn.moment room)).reply
-  pub woken_is : woken ≡ woken_of fate
+  pub reply_is : replied.reply ≡ (answer_to s (call turn.who command turn.moment room)).reply
+  pub woken_is : replied.woken ≡ woken_of fate
   pub performed : IsPerformed s s_new (call turn.who command turn.moment room) vs ws
   pub agreement : KeepsAgreements (call turn.who command turn.moment room) s s_new vs ws
   pub sight : KeepsSights (call turn.who command turn.moment room) s s_new vs ws
 
 -- what a try came to: the command was made, or it wants something and nothing happened
 abbrev pub IsTriedBy : Config → (s s_new : Stripe) → Command → Turn → Given → (vs ws : List ClassView) → Tried → Type 0
-IsTriedBy config s s_new command turn given vs ws (tried.Made reply woken) = IsMadeOn config s s_new command turn given vs ws reply woken
+IsTriedBy config s s_new command turn given vs ws (tried.Made replied) = IsMadeOn config s s_new command turn given vs ws replied
 IsTriedBy config s s_new command turn given vs ws (tried.Wants want) =
     IsUntouched s s_new vs ws × IsWanting given (key_of command) (item_of s command) turn.moment (row_at s command turn.moment) want

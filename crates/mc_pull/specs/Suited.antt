@@ -1,5 +1,4 @@
 -- Which events of a slab class a command may make.
-use Rattle.std.specs.Prelude.{List, [], ◌∷◌}
 use Rattle.mc_item.specs.declared.{class_event.ClassEvent.ClassEvent, command.Command.Command}
 use Rattle.mc_item.specs.declared.class_event.ClassEvent.TheVariants as events
 use Rattle.mc_pull.specs.Growth.{SuitsSearch}
@@ -38,8 +37,3 @@ SuitsCommand command (events.Evicted e) = MayNeedChunk command
 SuitsCommand command (events.Refused e) = MayNeedChunk command
 SuitsCommand command (events.Surveyed e) = ⊥
 SuitsCommand command (events.Limited e) = ⊥
-
--- a command may make each of these events
-abbrev pub AreSuited : Command → List ClassEvent → Type 0
-AreSuited command [] = Unit {0}
-AreSuited command (e ∷ es) = SuitsCommand command e × AreSuited command es

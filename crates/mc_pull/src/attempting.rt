@@ -19,11 +19,17 @@ use mc_segment::{ClassState, EntryKey};
 use mc_stripe::{Done, Fate, Given, Home, Other, StripeState, Turn, Want};
 use std::alloc::Global;
 
-/// What a try came to: the command was made, with this reply, or it wants something first. `woken` is the link of the item that
-/// the command's hit made ACTIVE, if it did.
+/// A command's reply, and the link of the item that its hit made ACTIVE, if it did.
+#[derive(Drop)]
+pub struct Replied {
+    pub reply: Reply,
+    pub woken: Option<Link>,
+}
+
+/// What a try came to: the command was made, or it wants something first.
 #[derive(Drop)]
 pub enum Tried {
-    Made { reply: Reply, woken: Option<Link> },
+    Made(Replied),
     Wants(Want),
 }
 
@@ -177,10 +183,10 @@ pub fn attempt_none(stripe: &mut StripeState, command: &Command, turn: Turn) -> 
         other: None,
     };
     match stripe.attempt(command, turn, &given)? {
-        Ok(done) => Ok(Tried::Made {
+        Ok(done) => Ok(Tried::Made(Replied {
             reply: done.reply,
             woken: done.fate.woken(),
-        }),
+        })),
         Err(want) => Ok(Tried::Wants(want)),
     }
 }
@@ -226,10 +232,10 @@ pub fn attempt_one(
         Ok(done) => {
             let Done { reply, room, fate } = done;
             make_part(class, keys, room, fate, turn);
-            Ok(Tried::Made {
+            Ok(Tried::Made(Replied {
                 reply,
                 woken: fate.woken(),
-            })
+            }))
         }
     }
 }
@@ -268,10 +274,10 @@ pub fn attempt_two(
             let Done { reply, room, fate } = done;
             make_part(home, first, room, fate, turn);
             make_part(other, second, room, fate, turn);
-            Ok(Tried::Made {
+            Ok(Tried::Made(Replied {
                 reply,
                 woken: fate.woken(),
-            })
+            }))
         }
     }
 }

@@ -24,7 +24,7 @@ mod verdict;
 
 pub use advancing::advance;
 pub use attempting::{
-    Attempt, Tried, attempt_none, attempt_one, attempt_two, offer_home, offer_other, ready,
+    Attempt, Replied, Tried, attempt_none, attempt_one, attempt_two, offer_home, offer_other, ready,
 };
 pub use context::Context;
 pub use from_tail::walks_go_from_the_tail;

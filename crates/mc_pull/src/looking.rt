@@ -68,8 +68,7 @@ impl<'a> Look<'a> {
     /// is refused. Neither history has changed then.
     pub fn settle(&mut self, stripe: &mut StripeState) -> Result<Judged, Fault>
         requires look { MaySettle self.old stripe.old }
-        ensures same_reference { self.new.class.ghost_name ≡ self.old.class.ghost_name }
-        ensures ask { self.new.ask ≡ self.old.ask }
+        ensures same { (self.new.class.ghost_name ≡ self.old.class.ghost_name) × (self.new.ask ≡ self.old.ask) }
         ensures done { IfOk result (λ judged. self.new.done ≡ Some judged.done) }
         ensures follows { IfOk result (IsJudgedBy (λ state. state ≡ stripe.old) self.old.ask.config.now (record { 0 = stripe.old.site.stripe })
             self.old.class.now (question_of self.old.ask)) }

@@ -105,7 +105,7 @@ module _ (given : Given) (refused : Option ℕ) (who : Who) (vs : List ClassView
 -- ---- what a try came to
 module _ (config : Config) (s s_new : Stripe) (made : Command) (turn : Turn) (given : Given) (vs ws : List ClassView) (site : KeepsSite s s_new) where
   tried_kept : (refused : Option ℕ) → IsOffered given refused turn.who vs → (t : Tried) → IsTriedBy config s s_new made turn given vs ws t → Kept s s_new vs ws
-  tried_kept refused offered (tried.Made reply woken) is = record {
+  tried_kept refused offered (tried.Made replied) is = record {
     site = site;
     like = gains_like s (call turn.who made turn.moment is.room) vs ws is.performed.classes;
     own = is.agreement.own;

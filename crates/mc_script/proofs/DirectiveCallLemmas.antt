@@ -1,11 +1,11 @@
 -- A directive's calls, one for each slab class.
 use Rattle.std.proofs.Common.{◌≡◌, ◌+◌, ◌-◌, ◌<◌, ℕ, zero, suc, List, [], ◌∷◌, ◌++◌, sym, ap, ◌∙◌, arith, map, subst}
 use Rattle.std.proofs.lemmas.List.{map-append}
-use Rattle.mc_item.specs.declared.item.ClassNo.{ClassNo}
+use Rattle.mc_item.specs.declared.{fault.Fault.Fault, item.ClassNo.ClassNo}
 use Rattle.mc_proto.specs.Answers.{Answer}
 use Rattle.mc_script.specs.{Calls.BreaksAmong, Calls.BreaksOff, Calls.CallsView, Calls.MakesCalls, Calls.SumsUp, Script.classes_from}
 use Rattle.mc_script.specs.Exchanges.{ScriptCall}
-use Rattle.mc_script.proofs.MadeCallLemmas.{breaks_first, breaks_later, makes_both}
+use Rattle.mc_script.proofs.MadeCallLemmas.{among_first, among_later, makes_both}
 
 -- classes from one on, and those behind them
 classes_from-append : (first n m : ℕ) → classes_from first (n + m) ≡ classes_from first n ++ classes_from (first + n) m
@@ -41,10 +41,10 @@ module _ {S : Type 0} {call : ClassNo → ScriptCall} {sum_of : List Answer → 
   }
 
   -- the call of a class failed behind those of others
-  pub class_fails : {all : ℕ} → n < all → SumsUp call sum_of (classes_from first n) sums moment a b → BreaksOff (call (record { 0 = first + n })) moment b c
-      → BreaksAmong (map call (classes_from first all)) moment a c
-  class_fails {all = all} below so_far off =
+  pub class_fails : {all : ℕ} {fault : Fault} → n < all → SumsUp call sum_of (classes_from first n) sums moment a b → BreaksOff fault (call (record { 0 = first + n })) moment b c
+      → BreaksAmong fault (map call (classes_from first all)) moment a c
+  class_fails {all = all} {fault = fault} below so_far off =
       let later = classes_from (first + n + 1) (all - (n + 1)) in
-      subst (λ (cs : List ScriptCall). BreaksAmong cs moment a c)
+      subst (λ (cs : List ScriptCall). BreaksAmong fault cs moment a c)
       (sym (ap (map call) (classes_from-split first n all below) ∙ map-append call (classes_from first n) (record { 0 = first + n } ∷ later)))
-      (breaks_later (map call later) so_far.makes (breaks_first {calls = []} off))
+      (among_later (map call later) so_far.makes (among_first {calls = []} off))

@@ -1,11 +1,11 @@
 -- Calls that were made, one behind the other.
-use Rattle.std.proofs.Common.{◌≡◌, ◌+◌, ◌≤◌, ℕ, zero, suc, List, [], ◌∷◌, ◌++◌, refl, sym, ap, ◌∙◌, append_assoc, append-nil, length, arith, length-append, drop, subst}
+use Rattle.std.proofs.Common.{◌≡◌, ◌+◌, ◌≤◌, ℕ, zero, suc, List, [], ◌∷◌, ◌++◌, refl, sym, ap, ◌∙◌, append_assoc, append-nil, length, arith, length-append, drop, subst, inl, inr, ⊎_elim}
 use Rattle.std.specs.Prelude.{Option, None, Some}
 use Rattle.mc_item.specs.declared.{fault.Fault.Fault}
 use Rattle.mc_item.specs.declared.fault.Fault.TheVariants as faults
 use Rattle.mc_proto.specs.{Answers.Answer}
-use Rattle.mc_script.specs.Calls.{AddsCalls, AreCutOff, Breaks, BreaksOff, CallsView, IsPart, IsSameCaller, MakesCalls, Notes}
-use Rattle.mc_script.specs.Exchanges.{AreAnswers, Begun, ScriptCall, Exchange, MayBegin, exchange, exchanges}
+use Rattle.mc_script.specs.Calls.{AddsCalls, AreBrokenOff, AreCutOff, AreMadeInPart, Breaks, BreaksAmong, BreaksOff, CallsView, IsSameCaller, MakesCalls, Notes}
+use Rattle.mc_script.specs.Exchanges.{AreAnswers, Exchange, Failure, IsFailure, ScriptCall, exchange, exchanges}
 
 -- the same caller
 pub same_itself : (now : CallsView) → IsSameCaller now now
@@ -96,23 +96,19 @@ makes_both {calls = calls} {others = others} {answers = answers} {more = more} {
   caller = second.caller ∙ first.caller;
 }
 
--- a part of some is a part of more
-part_more : (fault : Fault) (n k m l : ℕ) → IsPart fault n m → k + m ≤ l → IsPart fault (k + n) l
-part_more faults.NoMemory n k m l part more = omega arith
-part_more faults.HistoryFull n k m l part more = omega arith
+-- no more answers than calls
+few : (calls : List ScriptCall) (answers : List Answer) → AreAnswers calls answers → length answers ≤ length calls
+few calls [] are = omega arith
+few [] (a ∷ bs) are = absurd are
+few (c ∷ cs) (a ∷ bs) are = let rest = few cs bs are.1 in omega (arith, rest)
 
--- at most all
-pub part_few : (fault : Fault) (n m : ℕ) → IsPart fault n m → n ≤ m
-part_few faults.NoMemory n m part = part
-part_few faults.HistoryFull n m part = omega arith
-
--- a call that may begin among some may begin among these and others
-may_begin_front : (begun : Option Begun) (n : ℕ) (calls others : List ScriptCall) (moment : ℕ) → MayBegin begun (drop n calls) moment → MayBegin begun (drop n (calls ++ others)) moment
-may_begin_front None n calls others moment may = tt
-may_begin_front (Some b) zero [] others moment may = absurd may
-may_begin_front (Some b) zero (c ∷ cs) others moment may = may
-may_begin_front (Some b) (suc n) [] others moment may = absurd may
-may_begin_front (Some b) (suc n) (c ∷ cs) others moment may = may_begin_front (Some b) n cs others moment may
+-- a call that failed among some failed among these and others
+failure_front : (failure : Failure) (fault : Fault) (n : ℕ) (calls others : List ScriptCall) (moment : ℕ) → IsFailure failure fault (drop n calls) moment
+    → IsFailure failure fault (drop n (calls ++ others)) moment
+failure_front failure fault zero [] others moment is = absurd is
+failure_front failure fault zero (c ∷ cs) others moment is = is
+failure_front failure fault (suc n) [] others moment is = absurd is
+failure_front failure fault (suc n) (c ∷ cs) others moment is = failure_front failure fault n cs others moment is
 
 -- what is left of calls when some were answered, and then more of them
 drop_both : (calls others : List ScriptCall) (answers more : List Answer) → length answers ≡ length calls → drop (length more) others ≡ drop (length (answers ++ more)) (calls ++ others)
@@ -121,79 +117,104 @@ drop_both [] others (a ∷ bs) more long = absurd (omega arith)
 drop_both (c ∷ cs) others [] more long = absurd (omega arith)
 drop_both (c ∷ cs) others (a ∷ bs) more long = drop_both cs others bs more (omega arith)
 
--- some calls were made, and then the later ones were cut off
-cut_later : (fault : Fault) (calls others further : List ScriptCall) (answers : List Answer) (moment : ℕ) (before : List Exchange) (a b c : CallsView)
-    → MakesCalls calls answers moment a b → AreCutOff fault others a.caller b.turn moment (before ++ exchanges a.caller a.turn moment calls answers) c.notes
-    → AreCutOff fault (calls ++ (others ++ further)) a.caller a.turn moment before c.notes
-cut_later fault calls others further answers moment before a b c first second =
-    let long : length (calls ++ (others ++ further)) ≡ length calls + (length others + length further) =
-    omega (arith, length-append calls (others ++ further), length-append others further) in
-    record {
-      answers = answers ++ second.answers;
-      part = subst (λ (n : ℕ). IsPart fault n (length (calls ++ (others ++ further)))) (sym (length-append answers second.answers))
-          (part_more fault (length second.answers) (length answers) (length others) (length (calls ++ (others ++ further))) second.part (omega (arith, first.long, long)));
-      kinds = AreAnswers-append calls (others ++ further) answers second.answers first.long first.kinds (AreAnswers-front others further second.answers second.kinds);
-      begun = second.begun;
-      next = subst (λ (cs : List ScriptCall). MayBegin second.begun cs moment) (drop_both calls (others ++ further) answers second.answers first.long)
-          (may_begin_front second.begun (length second.answers) others further moment second.next);
-      noted = subst (λ (t : List Exchange). c.notes t second.begun)
-          (append_assoc before (exchanges a.caller a.turn moment calls answers) (exchanges a.caller b.turn moment others second.answers)
-          ∙ ap (λ (t : List Exchange). before ++ (exchanges a.caller a.turn moment calls answers ++ t))
-          (ap (λ (n : ℕ). exchanges a.caller n moment others second.answers) first.turns
-          ∙ exchanges-front a.caller (a.turn + length calls) moment others further second.answers (part_few fault (length second.answers) (length others) second.part))
-          ∙ ap (λ (t : List Exchange). before ++ t) (sym (exchanges-append a.caller a.turn moment calls (others ++ further) answers second.answers first.long)))
-          second.noted;
-    }
+-- the exchanges of some calls, and then of the first of others, with more behind these
+exchanges-later : (notes : Notes) (end : Option Failure) (calls others further : List ScriptCall) (answers more : List Answer) (moment : ℕ) (before : List Exchange) (a b : CallsView)
+    → MakesCalls calls answers moment a b → AreAnswers others more
+    → notes ((before ++ exchanges a.caller a.turn moment calls answers) ++ exchanges a.caller b.turn moment others more) end
+    → notes (before ++ exchanges a.caller a.turn moment (calls ++ (others ++ further)) (answers ++ more)) end
+exchanges-later notes end calls others further answers more moment before a b first kinds noted =
+    subst (λ (t : List Exchange). notes t end)
+    (append_assoc before (exchanges a.caller a.turn moment calls answers) (exchanges a.caller b.turn moment others more)
+    ∙ ap (λ (t : List Exchange). before ++ (exchanges a.caller a.turn moment calls answers ++ t))
+    (ap (λ (n : ℕ). exchanges a.caller n moment others more) first.turns
+    ∙ exchanges-front a.caller (a.turn + length calls) moment others further more (few others more kinds))
+    ∙ ap (λ (t : List Exchange). before ++ t) (sym (exchanges-append a.caller a.turn moment calls (others ++ further) answers more first.long)))
+    noted
 
--- some calls were made, and then one failed of those behind them
-pub breaks_later : {fault : Fault} {calls others : List ScriptCall} {answers : List Answer} {moment : ℕ} {a b c : CallsView} (further : List ScriptCall)
-    → MakesCalls calls answers moment a b → Breaks fault others moment b c → Breaks fault (calls ++ (others ++ further)) moment a c
-breaks_later {fault = fault} {calls = calls} {others = others} {answers = answers} {moment = moment} {a = a} {b = b} {c = c} further first second = record {
-  at = λ before by.
-      let all = before ++ exchanges a.caller a.turn moment calls answers in
-      cut_later fault calls others further answers moment before a b c first
-      (subst (λ (n : ℕ). AreCutOff fault others n b.turn moment all c.notes) first.caller (second.at all (first.noted.at before by)));
+-- some calls were made, and then one of the later ones failed
+broken_later : (fault : Fault) (calls others further : List ScriptCall) (answers : List Answer) (moment : ℕ) (before : List Exchange) (a b : CallsView) (notes : Notes)
+    → MakesCalls calls answers moment a b → AreBrokenOff fault others a.caller b.turn moment (before ++ exchanges a.caller a.turn moment calls answers) notes
+    → AreBrokenOff fault (calls ++ (others ++ further)) a.caller a.turn moment before notes
+broken_later fault calls others further answers moment before a b notes first second = record {
+  answers = answers ++ second.answers;
+  kinds = AreAnswers-append calls (others ++ further) answers second.answers first.long first.kinds (AreAnswers-front others further second.answers second.kinds);
+  failure = second.failure;
+  next = subst (λ (cs : List ScriptCall). IsFailure second.failure fault cs moment) (drop_both calls (others ++ further) answers second.answers first.long)
+      (failure_front second.failure fault (length second.answers) others further moment second.next);
+  noted = exchanges-later notes (Some second.failure) calls others further answers second.answers moment before a b first second.kinds second.noted;
 }
+
+-- some calls were made, and then a part of the later ones
+part_later : (calls others further : List ScriptCall) (answers : List Answer) (moment : ℕ) (before : List Exchange) (a b : CallsView) (notes : Notes)
+    → MakesCalls calls answers moment a b → AreMadeInPart others a.caller b.turn moment (before ++ exchanges a.caller a.turn moment calls answers) notes
+    → AreMadeInPart (calls ++ (others ++ further)) a.caller a.turn moment before notes
+part_later calls others further answers moment before a b notes first second = record {
+  answers = answers ++ second.answers;
+  kinds = AreAnswers-append calls (others ++ further) answers second.answers first.long first.kinds (AreAnswers-front others further second.answers second.kinds);
+  noted = exchanges-later notes None calls others further answers second.answers moment before a b first second.kinds second.noted;
+}
+
+module _ {fault : Fault} {calls others : List ScriptCall} {answers : List Answer} {moment : ℕ} {a b c : CallsView} (further : List ScriptCall)
+    (first : MakesCalls calls answers moment a b) where
+  -- some calls were made, and then one failed of those behind them
+  pub among_later : BreaksAmong fault others moment b c → BreaksAmong fault (calls ++ (others ++ further)) moment a c
+  among_later second = record {
+    at = λ before by.
+        let all = before ++ exchanges a.caller a.turn moment calls answers in
+        broken_later fault calls others further answers moment before a b c.notes first
+        (subst (λ (n : ℕ). AreBrokenOff fault others n b.turn moment all c.notes) first.caller (second.at all (first.noted.at before by)));
+  }
+
+  -- or memory for a text ran out
+  pub breaks_later : Breaks fault others moment b c → Breaks fault (calls ++ (others ++ further)) moment a c
+  breaks_later second = record {
+    at = λ before by.
+        let all = before ++ exchanges a.caller a.turn moment calls answers in
+        ⊎_elim
+        (λ broken. inl (broken_later fault calls others further answers moment before a b c.notes first broken))
+        (λ part. inr (part.0, part_later calls others further answers moment before a b c.notes first part.1))
+        (subst (λ (n : ℕ). AreCutOff fault others n b.turn moment all c.notes) first.caller (second.at all (first.noted.at before by)));
+  }
+
+-- calls one of which failed are cut off
+pub breaks_among : {fault : Fault} {calls : List ScriptCall} {moment : ℕ} {a b : CallsView} → BreaksAmong fault calls moment a b → Breaks fault calls moment a b
+breaks_among among = record { at = λ before by. inl (among.at before by) }
 
 -- all calls were made, and then there was no memory for the text
 pub breaks_end : {calls : List ScriptCall} {answers : List Answer} {moment : ℕ} {a b : CallsView} → MakesCalls calls answers moment a b
     → Breaks faults.NoMemory calls moment a b
-breaks_end {answers = answers} all = record {
-  at = λ before by. record { answers = answers; part = omega (arith, all.long); kinds = all.kinds; begun = None; next = tt; noted = all.noted.at before by };
-}
-
--- no call is a part of one call and more
-part_first : (fault : Fault) (more : ℕ) → IsPart fault 0 (suc more)
-part_first faults.NoMemory more = omega arith
-part_first faults.HistoryFull more = omega arith
+breaks_end {answers = answers} all = record { at = λ before by. inr (refl, record { answers = answers; kinds = all.kinds; noted = all.noted.at before by }) }
 
 -- the first call failed
-pub breaks_first : {fault : Fault} {call : ScriptCall} {calls : List ScriptCall} {moment : ℕ} {a b : CallsView} → BreaksOff call moment a b
-    → Breaks fault (call ∷ calls) moment a b
-breaks_first {fault = fault} {call = call} {calls = calls} {moment = moment} {b = b} off = record {
+pub among_first : {fault : Fault} {call : ScriptCall} {calls : List ScriptCall} {moment : ℕ} {a b : CallsView} → BreaksOff fault call moment a b
+    → BreaksAmong fault (call ∷ calls) moment a b
+among_first {b = b} off = record {
   at = λ before by.
       let o = off.at before by in
       record {
         answers = [];
-        part = part_first fault (length calls);
         kinds = tt;
-        begun = o.0;
-        next = may_begin_front o.0 0 (call ∷ []) calls moment o.1;
-        noted = subst (λ (t : List Exchange). b.notes t o.0) (sym (append-nil before)) o.2;
+        failure = o.0;
+        next = o.1;
+        noted = subst (λ (t : List Exchange). b.notes t (Some o.0)) (sym (append-nil before)) o.2;
       };
 }
+
+pub breaks_first : {fault : Fault} {call : ScriptCall} {calls : List ScriptCall} {moment : ℕ} {a b : CallsView} → BreaksOff fault call moment a b
+    → Breaks fault (call ∷ calls) moment a b
+breaks_first off = breaks_among (among_first off)
 
 -- no call was made of those to come
 pub cut_none : {calls : List ScriptCall} {caller turn moment : ℕ} {notes : Notes} (before : List Exchange) → notes before None
     → AreCutOff faults.NoMemory calls caller turn moment before notes
-cut_none {calls = calls} {caller = caller} {turn = turn} {moment = moment} {notes = notes} before by = record {
-  answers = [];
-  part = omega arith;
-  kinds = AreAnswers-none calls;
-  begun = None;
-  next = tt;
-  noted = subst (λ (t : List Exchange). notes t None) (sym (append-nil before) ∙ ap (λ (t : List Exchange). before ++ t) (sym (exchanges-none caller turn moment calls))) by;
-}
+cut_none {calls = calls} {caller = caller} {turn = turn} {moment = moment} {notes = notes} before by = inr (
+  refl,
+  record {
+    answers = [];
+    kinds = AreAnswers-none calls;
+    noted = subst (λ (t : List Exchange). notes t None) (sym (append-nil before) ∙ ap (λ (t : List Exchange). before ++ t) (sym (exchanges-none caller turn moment calls))) by;
+  },
+)
 
 -- no call was made, and then there was no memory for the text
 pub breaks_none : {calls : List ScriptCall} {moment : ℕ} (now : CallsView) → Breaks faults.NoMemory calls moment now now

@@ -5,11 +5,18 @@ use Rattle.mc_item.specs.declared.fault.Fault.TheVariants as faults
 use Rattle.mc_proto.specs.{Answers.Answer, Answers.text_of, Grammar.IsModerate, Text.IsBeginning}
 use Rattle.mc_proto.specs.declared.{request.Limits.Limits, request.Request.Request}
 use Rattle.std.specs.Prelude.{None}
-use Rattle.mc_script.specs.{Calls.Answers, Calls.AreCutOff, Calls.CallsView, Calls.Fails, Run.IsCutOff, Run.NoneEnds, Run.first_moment, Exchanges.Exchange, Exchanges.exchanges}
-use Rattle.mc_script.specs.Progress.{AreModerate, Goes, HasAnswered, HasFailed, HasTorn, IsProgress, Went}
+use Rattle.mc_script.specs.{Calls.Answers, Calls.AreBrokenOff, Calls.AreCutOff, Calls.BreaksAmong, Calls.CallsView, Calls.Fails, Run.NoneEnds, Run.first_moment}
+use Rattle.mc_script.specs.Exchanges.{Exchange, ScriptCall, exchanges}
+use Rattle.mc_script.specs.Progress.{AreModerate, Goes, HasAnswered, HasFailed, HasTorn, IsProgress}
 use Rattle.mc_script.specs.Script.{Answered, AreWhole, IsAnsweredWhole, all_exchanges, answered, calls_of, ends, moment_after, moment_behind, requests_of, texts_of, turn_behind}
 use Rattle.mc_script.specs.declared.scripting.Progress.{Progress}
 use Rattle.mc_script.specs.declared.scripting.Progress.TheVariants as progress
+
+-- so far these requests were answered, after those answered before
+pub record Went (limits : Limits) (yielded : List Request) (before : List Answered) (start taken text : List ℕ) (now : CallsView) (moment : ℕ) : Type 0 where
+  pub added : List Answered
+  pub asked : requests_of added ≡ yielded
+  pub state : HasAnswered limits (before ++ added) start taken text now moment
 
 -- one request more has its replies too
 AreWhole-push : (limits : Limits) (all : List Answered) (a : Answered) → AreWhole limits all → IsAnsweredWhole limits a → AreWhole limits (all ++ a ∷ [])
@@ -51,6 +58,23 @@ exchanges_at limits caller turn moment before request answers turn_is moment_is 
     ap (λ (n : ℕ). exchanges caller n moment (calls_of limits request) answers) turn_is ∙ ap (λ (n : ℕ). exchanges caller (turn_behind limits 0 before) n (calls_of limits request) answers) moment_is
 
 -- these requests were answered, and what is said of the next one
+module _ {limits : Limits} {before : List Answered} {start taken text : List ℕ} {moment : ℕ} {old : CallsView} (has : HasAnswered limits before start taken text old moment) where
+  -- what holds behind the calls so far holds behind the requests so far
+  behind : {caller : ℕ} (P : (caller turn moment : ℕ) → List Exchange → Type 0) → caller ≡ old.caller
+      → P old.caller old.turn moment (all_exchanges limits old.caller 0 first_moment before)
+      → P caller (turn_behind limits 0 before) (moment_behind first_moment before) (all_exchanges limits caller 0 first_moment before)
+  behind P same here =
+      subst (λ (n : ℕ). P n (turn_behind limits 0 before) (moment_behind first_moment before) (all_exchanges limits n 0 first_moment before)) (sym same)
+      (subst (λ (n : ℕ). P old.caller (turn_behind limits 0 before) n (all_exchanges limits old.caller 0 first_moment before)) has.moment_is
+      (subst (λ (n : ℕ). P old.caller n moment (all_exchanges limits old.caller 0 first_moment before)) has.turn_is here))
+
+  -- one of these calls failed behind them
+  pub broken : {calls : List ScriptCall} {now : CallsView} {fault : Fault} → BreaksAmong fault calls moment old now → now.caller ≡ old.caller
+      → AreBrokenOff fault calls now.caller (turn_behind limits 0 before) (moment_behind first_moment before) (all_exchanges limits now.caller 0 first_moment before) now.notes
+  broken {calls = calls} {now = now} {fault = fault} by same =
+      behind (λ caller turn moment' made. AreBrokenOff fault calls caller turn moment' made now.notes) same (by.at (all_exchanges limits old.caller 0 first_moment before) has.notes_all)
+
+-- the next one was answered, or failed
 module _ {limits : Limits} {before : List Answered} {start taken text text' : List ℕ} {request : Request} {moment : ℕ} {old now : CallsView}
     (has : HasAnswered limits before start taken text old moment) where
   -- a request more was answered, and its text gathered
@@ -80,10 +104,8 @@ module _ {limits : Limits} {before : List Answered} {start taken text text' : Li
     took = has.took;
     texts = ap (λ (t : List ℕ). has.printed ++ t) kept ∙ has.texts;
     own = own;
-    cut = subst (λ (n : ℕ). IsCutOff fault limits request before now.notes n) (sym same)
-        (subst (λ (n : ℕ). AreCutOff fault (calls_of limits request) old.caller (turn_behind limits 0 before) n (all_exchanges limits old.caller 0 first_moment before) now.notes) has.moment_is
-        (subst (λ (n : ℕ). AreCutOff fault (calls_of limits request) old.caller n moment (all_exchanges limits old.caller 0 first_moment before) now.notes) has.turn_is
-        (by.at (all_exchanges limits old.caller 0 first_moment before) has.notes_all)));
+    cut = behind has (λ caller turn moment' made. AreCutOff fault (calls_of limits request) caller turn moment' made now.notes) same
+        (by.at (all_exchanges limits old.caller 0 first_moment before) has.notes_all);
   }
 
 -- what the sink took of the texts that were gathered

@@ -4,9 +4,18 @@ use Rattle.std.specs.Prelude.{All, None}
 use Rattle.mc_proto.specs.{Grammar.IsModerate, Reader.After}
 use Rattle.mc_proto.specs.declared.{request.Limits.Limits, request.Request.Request, state.State.State}
 use Rattle.mc_proto.proofs.KeptRestLemmas.{after_reads}
-use Rattle.mc_script.specs.{Calls.CallsView, Progress.AreModerate, Progress.AnswersWhole, Progress.AsksNothing, Progress.HasCome, Progress.IsOnWay, Script.Answered, Script.texts_of}
-use Rattle.mc_script.specs.Run.{HasEnded, HasRun, HasRunTo, HasStarved, IsOut, first_moment}
+use Rattle.mc_script.specs.{Calls.CallsView, Progress.AreModerate, Progress.AnswersWhole, Progress.AsksNothing, Progress.HasAnswered, Progress.HasCome, Script.Answered, Script.requests_of, Script.texts_of}
+use Rattle.mc_script.specs.Run.{HasEnded, HasRun, HasRunTo, HasStarved, IsOut, NoneEnds, first_moment}
 use Rattle.mc_script.proofs.ScriptPieceLemmas.{own_requests-all, NoneEnds-append}
+
+-- a run between two pieces of its input: all requests in the bytes that came were answered, and none of them ends the script
+pub record IsOnWay (limits : Limits) (state : State) (unread came start taken text : List ℕ) (now : CallsView) (moment : ℕ) : Type 0 where
+  pub requests : List Request
+  pub done : List Answered
+  pub after : After limits state unread came requests
+  pub own : NoneEnds requests
+  pub asked : requests_of done ≡ requests
+  pub state_of : HasAnswered limits done start taken text now moment
 
 -- from the second state to the third no bytes came
 pub since_none : {E : Type 0} {gave : E → E → List ℕ → Type 0} {first second third : E} {came : List ℕ}

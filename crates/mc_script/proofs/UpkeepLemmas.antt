@@ -1,17 +1,17 @@
 -- Upkeep on its way, one moment further.
-use Rattle.std.proofs.Common.{◌≡◌, ◌+◌, ◌<◌, ℕ, suc, List, [], ◌∷◌, ◌++◌, refl, sym, ap, ◌∙◌, append_assoc, arith, subst, length, length-append, take, drop, false}
+use Rattle.std.proofs.Common.{◌≡◌, ◌+◌, ◌<◌, ℕ, suc, List, [], ◌∷◌, ◌++◌, refl, sym, ap, ◌∙◌, append_assoc, arith, subst, length, length-append, take, drop}
 use Rattle.std.specs.Prelude.{None, slice_index_or}
 use Rattle.std.specs.List.{flat_map}
 use Rattle.std.proofs.Math.Seq.{take-suc}
 use Rattle.std.proofs.lemmas.List.{take-append-drop}
-use Rattle.mc_item.specs.declared.fault.Fault.TheVariants as faults
+use Rattle.mc_item.specs.declared.fault.Fault.{Fault}
 use Rattle.mc_proto.specs.declared.{request.Limits.Limits, request.Request.Request}
 use Rattle.mc_proto.specs.declared.request.Request.TheVariants as requests
-use Rattle.mc_script.specs.{Calls.Answers, Calls.BreaksAmong, Calls.CallsView, Calls.IsSameCaller, Progress.HasAnswered, Run.IsCutOff, Run.first_moment}
-use Rattle.mc_script.specs.Script.{Answered, all_exchanges, answered, calls_of, ends, moment_after, requests_of, turn_behind}
+use Rattle.mc_script.specs.{Calls.Answers, Calls.AreBrokenOff, Calls.BreaksAmong, Calls.CallsView, Calls.IsSameCaller, Progress.HasAnswered, Run.first_moment}
+use Rattle.mc_script.specs.Script.{Answered, all_exchanges, answered, calls_of, moment_after, moment_behind, requests_of, turn_behind}
 use Rattle.mc_script.specs.Upkeep.{HasBrokenOff, HasKeptUp, WorksAll, directive_of, many_calls, work_of}
 use Rattle.mc_script.specs.declared.{upkeep.Keeper.Keeper, upkeep.Keeper.TheVariants.Maintainer, upkeep.Keeper.TheVariants.Crawler}
-use Rattle.mc_script.proofs.{MadeCallLemmas.makes_none, ProgressLemmas.answered_more, ProgressLemmas.failed, ProgressLemmas.requests_of-append}
+use Rattle.mc_script.proofs.{MadeCallLemmas.makes_none, ProgressLemmas.answered_more, ProgressLemmas.broken, ProgressLemmas.requests_of-append}
 
 -- the work at these moments was done so far; the texts that a script would print are gathered nowhere
 pub record HasKept (limits : Limits) (keeper : Keeper) (moments : List ℕ) (now : CallsView) : Type 0 where
@@ -45,11 +45,6 @@ keeps_moment : (keeper : Keeper) (moment : ℕ) → moment_after moment (directi
 keeps_moment Maintainer moment = refl
 keeps_moment Crawler moment = refl
 
--- and ends no script
-goes_on : (keeper : Keeper) → ends (directive_of keeper) ≡ false
-goes_on Maintainer = refl
-goes_on Crawler = refl
-
 -- the work at these moments was done, and then that at one moment more
 module _ {limits : Limits} {keeper : Keeper} {moments : List ℕ} {now : CallsView} (kept : HasKept limits keeper moments now) (moment : ℕ) where
   abbrev before : List Answered
@@ -76,10 +71,10 @@ module _ {limits : Limits} {keeper : Keeper} {moments : List ℕ} {now : CallsVi
       }
 
   -- a call failed at the next moment
-  pub kept_fails : {all : List ℕ} {first next : CallsView} (later : List ℕ) → IsSameCaller first now → BreaksAmong (calls_of limits (directive_of keeper)) moment now next
-      → IsSameCaller now next → all ≡ moments ++ moment ∷ later → HasBrokenOff limits (work_of keeper all) next.notes first.caller
-  kept_fails {next = next} later so_far fails same split =
-      let f = failed at_moment fails same.caller refl (goes_on keeper) in
+  pub kept_fails : {fault : Fault} {all : List ℕ} {first next : CallsView} (later : List ℕ) → IsSameCaller first now
+      → BreaksAmong fault (calls_of limits (directive_of keeper)) moment now next
+      → IsSameCaller now next → all ≡ moments ++ moment ∷ later → HasBrokenOff fault limits (work_of keeper all) next.notes first.caller
+  kept_fails {fault = fault} {next = next} later so_far fails same split =
       record {
         answered = before;
         request = directive_of keeper;
@@ -88,8 +83,9 @@ module _ {limits : Limits} {keeper : Keeper} {moments : List ℕ} {now : CallsVi
             ∙ ap (λ (rs : List Request). rs ++ requests.At moment ∷ directive_of keeper ∷ work_of keeper later) (sym kept.asked)
             ∙ sym (append_assoc (requests_of kept.answered) (requests.At moment ∷ []) (directive_of keeper ∷ work_of keeper later))
             ∙ ap (λ (rs : List Request). rs ++ directive_of keeper ∷ work_of keeper later) (sym (requests_of-append kept.answered (answered (requests.At moment) [] ∷ [])));
-        whole = f.whole;
-        cut = subst (IsCutOff faults.HistoryFull limits (directive_of keeper) before next.notes) (same.caller ∙ so_far.caller) f.cut;
+        whole = at_moment.whole;
+        cut = subst (λ (n : ℕ). AreBrokenOff fault (calls_of limits (directive_of keeper)) n (turn_behind limits 0 before) (moment_behind first_moment before)
+            (all_exchanges limits n 0 first_moment before) next.notes) (same.caller ∙ so_far.caller) (broken at_moment fails same.caller);
       }
 
 -- all of it was done

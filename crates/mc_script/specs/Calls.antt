@@ -1,5 +1,5 @@
 -- What contracts see of a caller, with what is known of its calls so far (`notes`), and what a request adds to that.
-use Rattle.std.specs.Prelude.{ℕ, ℤ, ◌≡◌, ◌≤◌, ◌<◌, ◌+◌, ◌^◌, Bool, List, [], ◌∷◌, ◌++◌, Option, Some, None, length, map, take, drop, Result, OnOk, IsErrOf}
+use Rattle.std.specs.Prelude.{ℕ, ℤ, ◌≡◌, ◌≤◌, ◌+◌, ◌^◌, ◌⊎◌, Bool, List, [], ◌∷◌, ◌++◌, Option, Some, None, length, map, take, drop, Result, OnOk}
 use Rattle.std.specs.List.{sum}
 use Rattle.mc_item.specs.declared.{command.Command.Command, fault.Fault.Fault, item.ClassNo.ClassNo, counts.Histogram.Histogram, reply.Reply.Reply}
 use Rattle.mc_item.specs.declared.command.Command.TheVariants.{Get, Gat}
@@ -7,21 +7,20 @@ use Rattle.mc_item.specs.declared.fault.Fault.TheVariants as faults
 use Rattle.mc_proto.specs.{Answers.Answer, Answers.Replied, Answers.text_of, Text.value_text}
 use Rattle.mc_proto.specs.declared.{request.Limits.Limits, request.Request.Request}
 use Rattle.mc_proto.specs.declared.request.Request.TheVariants as requests
-use Rattle.mc_script.specs.Exchanges.{AreAnswers, Asks, Begun, Exchange, MayBegin, ScriptCall, exchanges}
+use Rattle.mc_script.specs.Exchanges.{AreAnswers, Asks, Exchange, Failure, IsFailure, ScriptCall, exchanges}
 use Rattle.mc_script.specs.Script.{AllThere, calls_of}
 
--- what is known of a caller's calls: a fact about the list of those with answers, and about the last call if it got none
+-- what is known of a caller's calls: a fact about the list of those with answers, and about the last call if it failed
 abbrev pub Notes : Type 1
-Notes = List Exchange → Option Begun → Type 0
+Notes = List Exchange → Option Failure → Type 0
 
--- what contracts see of a caller: its number, its next turn, its notes, its slab classes, and if it may call or a history is full
+-- what contracts see of a caller: its number, its next turn, its notes, its slab classes, and if it may call
 pub record CallsView : Type 1 where
   pub caller : ℕ
   pub turn : ℕ
   pub notes : Notes
   pub has_class : ClassNo → Type 0
   pub may_call : Type 0
-  pub is_full : Type 0
 
 -- calls may be made at this moment: the next one may, the moment isn't too late, and the slab classes of these limits exist
 pub record MayAnswer (limits : Limits) (moment : ℕ) (now : CallsView) : Type 0 where
@@ -34,24 +33,18 @@ pub record IsSameCaller (old new : CallsView) : Type 0 where
   pub caller : new.caller ≡ old.caller
   pub classes : (class : ClassNo) → (old.has_class class → new.has_class class) × (new.has_class class → old.has_class class)
 
--- what a call leaves, whatever its result: the same caller, which may call again after a success; after `HistoryFull` a history is full
+-- what a call leaves, whatever its result: the same caller, which may call again after a success
 pub record GoesOn {T : Type 0} (old new : CallsView) (result : Result T Fault) : Type 0 where
   pub same : IsSameCaller old new
   pub may : OnOk result new.may_call
-  pub full : IsErrOf result faults.HistoryFull → new.is_full
 
 -- whatever the old notes say of some calls, the new notes say of those calls followed by these; each got its answer
 pub record AddsCalls (old new : Notes) (more : List Exchange) : Type 0 where
   pub at : (calls : List Exchange) → old calls None → new (calls ++ more) None
 
--- a call failed: no answer is added, and no other call was begun
-pub record BreaksOff (call : ScriptCall) (moment : ℕ) (old new : CallsView) : Type 0 where
-  pub at : (calls : List Exchange) → old.notes calls None → (begun : Option Begun) × MayBegin begun (call ∷ []) moment × new.notes calls begun
-
--- how many of all its calls a failed request made: any number if memory ran out, fewer than all if a history was full
-abbrev pub IsPart : Fault → ℕ → ℕ → Type 0
-IsPart faults.NoMemory made all = made ≤ all
-IsPart faults.HistoryFull made all = made < all
+-- a call failed with this fault: no answer is added
+pub record BreaksOff (fault : Fault) (call : ScriptCall) (moment : ℕ) (old new : CallsView) : Type 0 where
+  pub at : (calls : List Exchange) → old.notes calls None → (failure : Failure) × IsFailure failure fault (call ∷ []) moment × new.notes calls (Some failure)
 
 -- a caller made these calls in order, each in its own turn, and got these answers
 pub record MakesCalls (calls : List ScriptCall) (answers : List Answer) (moment : ℕ) (old new : CallsView) : Type 0 where
@@ -61,22 +54,32 @@ pub record MakesCalls (calls : List ScriptCall) (answers : List Answer) (moment 
   pub turns : new.turn ≡ old.turn + length calls
   pub caller : new.caller ≡ old.caller
 
--- after the calls before, the first of these were answered, and at most the next one was begun and got no answer
-pub record AreCutOff (fault : Fault) (calls : List ScriptCall) (caller turn moment : ℕ) (before : List Exchange) (notes : Notes) : Type 0 where
+-- after the calls before, the first of these were answered, and the next one failed with this fault
+pub record AreBrokenOff (fault : Fault) (calls : List ScriptCall) (caller turn moment : ℕ) (before : List Exchange) (notes : Notes) : Type 0 where
   pub answers : List Answer
-  pub part : IsPart fault (length answers) (length calls)
   pub kinds : AreAnswers calls answers
-  pub begun : Option Begun
-  pub next : MayBegin begun (drop (length answers) calls) moment
-  pub noted : notes (before ++ exchanges caller turn moment calls answers) begun
+  pub failure : Failure
+  pub next : IsFailure failure fault (drop (length answers) calls) moment
+  pub noted : notes (before ++ exchanges caller turn moment calls answers) (Some failure)
 
--- the first of these calls were made, and then a call failed or memory for a text ran out
+-- after the calls before, the first of these were answered, or all, and no other call was made
+pub record AreMadeInPart (calls : List ScriptCall) (caller turn moment : ℕ) (before : List Exchange) (notes : Notes) : Type 0 where
+  pub answers : List Answer
+  pub kinds : AreAnswers calls answers
+  pub noted : notes (before ++ exchanges caller turn moment calls answers) None
+
+-- after the calls before, the first of these were answered, and then the next one failed with this fault, or memory for a text ran out
+abbrev pub AreCutOff : Fault → List ScriptCall → (caller turn moment : ℕ) → List Exchange → Notes → Type 0
+AreCutOff fault calls caller turn moment before notes =
+    AreBrokenOff fault calls caller turn moment before notes ⊎ ((fault ≡ faults.NoMemory) × AreMadeInPart calls caller turn moment before notes)
+
+-- the first of these calls were made, and then one failed with this fault or memory for a text ran out
 pub record Breaks (fault : Fault) (calls : List ScriptCall) (moment : ℕ) (old new : CallsView) : Type 0 where
   pub at : (before : List Exchange) → old.notes before None → AreCutOff fault calls old.caller old.turn moment before new.notes
 
--- the first of these calls were made, and then one of them failed: fewer than all, as after a full history
-abbrev pub BreaksAmong : List ScriptCall → ℕ → CallsView → CallsView → Type 0
-BreaksAmong calls moment old new = Breaks faults.HistoryFull calls moment old new
+-- the first of these calls were made, and then one of them failed with this fault
+pub record BreaksAmong (fault : Fault) (calls : List ScriptCall) (moment : ℕ) (old new : CallsView) : Type 0 where
+  pub at : (before : List Exchange) → old.notes before None → AreBrokenOff fault calls old.caller old.turn moment before new.notes
 
 -- a request was answered: all its calls were made, and its text was added
 pub record Answers (limits : Limits) (request : Request) (moment : ℕ) (old new : CallsView) (text text' : List ℕ) : Type 0 where

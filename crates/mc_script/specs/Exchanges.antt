@@ -1,7 +1,7 @@
 -- Calls, and exchanges: a call with its answer, in a turn of its caller (the call's number).
-use Rattle.std.specs.Prelude.{ℕ, ◌≡◌, ◌+◌, List, [], ◌∷◌, Option, Some, None}
+use Rattle.std.specs.Prelude.{ℕ, ◌≡◌, ◌+◌, ◌⊎◌, List, [], ◌∷◌, Option}
 use Rattle.mc_item.specs.Answer.{row_of}
-use Rattle.mc_item.specs.declared.{answer.Site.Site, command.Command.Command, item.ClassNo.ClassNo, item.Item.Item, item.Who.Who}
+use Rattle.mc_item.specs.declared.{answer.Site.Site, command.Command.Command, fault.Fault.Fault, item.ClassNo.ClassNo, item.Item.Item, item.Who.Who}
 use Rattle.mc_item.specs.declared.{reply.Reply.Reply, reply.Room.Room}
 use Rattle.mc_proto.specs.Answers.{Answer, Counted, Limited, Replied, Moved}
 
@@ -43,16 +43,15 @@ pub record Exchange : Type 0 where
   pub moment : ℕ
   pub answer : Answer
 
--- a call that was begun at this moment and got no answer
-pub record Begun : Type 0 where
-  pub call : ScriptCall
-  pub moment : ℕ
+-- how a call failed, which got no answer: with this fault before it began, or with this fault after it began at this moment
+pub data Failure : Type 0 where
+  Unbegun : Fault → Failure
+  Begun : ScriptCall → ℕ → Fault → Failure
 
--- what may have begun at this moment, if these calls had no answer yet: none of them, or the first
-abbrev pub MayBegin : Option Begun → List ScriptCall → ℕ → Type 0
-MayBegin None calls moment = Unit {0}
-MayBegin (Some begun) [] moment = ⊥
-MayBegin (Some begun) (call ∷ calls) moment = (begun.call ≡ call) × (begun.moment ≡ moment)
+-- the first of these calls failed so, with this fault and at this moment
+abbrev pub IsFailure : Failure → Fault → List ScriptCall → ℕ → Type 0
+IsFailure failure fault [] moment = ⊥
+IsFailure failure fault (call ∷ calls) moment = (failure ≡ Unbegun fault) ⊎ (failure ≡ Begun call moment fault)
 
 -- the exchange of this caller in this turn
 abbrev pub exchange : ℕ → ℕ → ScriptCall → ℕ → Answer → Exchange

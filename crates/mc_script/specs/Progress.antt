@@ -70,21 +70,6 @@ pub record Goes (progress : Progress) (limits : Limits) (requests : List Request
   pub asked : requests_of added ≡ front
   pub state : IsProgress progress limits back (before ++ added) start taken text now moment
 
--- so far these requests were answered, after those answered before
-pub record Went (limits : Limits) (yielded : List Request) (before : List Answered) (start taken text : List ℕ) (now : CallsView) (moment : ℕ) : Type 0 where
-  pub added : List Answered
-  pub asked : requests_of added ≡ yielded
-  pub state : HasAnswered limits (before ++ added) start taken text now moment
-
--- a run between two pieces of its input: all requests in the bytes that came were answered, and none of them ends the script
-pub record IsOnWay (limits : Limits) (state : State) (unread came start taken text : List ℕ) (now : CallsView) (moment : ℕ) : Type 0 where
-  pub requests : List Request
-  pub done : List Answered
-  pub after : After limits state unread came requests
-  pub own : NoneEnds requests
-  pub asked : requests_of done ≡ requests
-  pub state_of : HasAnswered limits done start taken text now moment
-
 -- one more piece came: `done` was answered before, and `added` are the requests that the piece completes
 pub record HasCome (limits : Limits) (came : List ℕ) (done : List Answered) (added : List Request) : Type 0 where
   pub requests : List Request

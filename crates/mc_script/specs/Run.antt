@@ -135,8 +135,7 @@ pub record MayStart (limits : Limits) (now : CallsView) : Type 0 where
   pub none : now.notes [] None
   pub classes : AllThere now.has_class limits
 
--- what a run with this outcome leaves of its caller: the same one, which may call again after `Done`; after `HistoryFull` a history is full
+-- what a run with this outcome leaves of its caller: the same one, which may call again after `Done`
 pub record LeavesCaller (outcome : Outcome) (old new : CallsView) : Type 0 where
   pub same : IsSameCaller old new
   pub done : outcome ≡ Done → new.may_call
-  pub full : outcome ≡ HistoryFull → new.is_full

@@ -1,5 +1,5 @@
 //! The trait `Calls`: a caller, with whatever answers its calls.
-ghost use Rattle.std.specs.Prelude.{◌≤◌, ◌<◌, ◌^◌, ◌∷◌, ℕ, [], IfOk, OnErr, OnOk};
+ghost use Rattle.std.specs.Prelude.{◌≤◌, ◌<◌, ◌^◌, ◌∷◌, ℕ, [], IfErr, IfOk, OnOk};
 ghost use Rattle.mc_proto.specs.Answers.{Counted, Limited, Moved, Replied};
 ghost use Rattle.mc_script.specs.Calls.{AddsUp, BreaksOff, CallsView, GoesOn, MakesCalls};
 ghost use Rattle.mc_script.specs.Exchanges.{Asks, Crawls, Juggles, Limits};
@@ -9,20 +9,20 @@ use std::sync::Wait;
 
 /// A caller that makes calls, each in a turn of its own. Contracts see its `CallsView`: `turn` is the next turn's number.
 /// `notes` is what is known of its calls so far: a fact about the list of them with their answers, and about the last call if it
-/// broke off, which was begun and got no answer. Each call adds itself to it.
+/// failed: with which fault, and if it had begun. Each call adds itself to it.
 /// `has_class` says which slab classes it has. They never change.
 /// `may_call` says when the next call may be made, which is always so after a call that succeeded.
 pub trait Calls: Drop {
     ghost view: { Self → CallsView };
 
     /// Makes a command's call at a moment (time in seconds, at most 2^62), and returns the reply.
-    /// After `NoMemory` or `HistoryFull` it has no answer, and at most this call was begun. After `HistoryFull` also `is_full` holds.
+    /// After `NoMemory` or `HistoryFull` it has no answer, and at most this call was begun.
     fn command(&mut self, rt: &impl Wait, command: Command, moment: u64) -> Result<Reply, Fault>
         requires may { (view self.old).may_call }
         requires early { moment ≤ 2 ^ 62 }
         ensures caller { GoesOn (view self.old) (view self.new) result }
         ensures ok { IfOk result (λ reply. MakesCalls (Asks command ∷ []) (Replied reply ∷ []) moment (view self.old) (view self.new)) }
-        ensures err { OnErr result (BreaksOff (Asks command) moment (view self.old) (view self.new)) };
+        ensures err { IfErr result (λ e. BreaksOff e (Asks command) moment (view self.old) (view self.new)) };
 
     /// Makes a call of the maintainer's work on a slab class at a moment, and returns how many entries it reclaimed and moved.
     /// Both numbers are below 2^32. Errors are those of `command`.
@@ -33,7 +33,7 @@ pub trait Calls: Drop {
         ensures caller { GoesOn (view self.old) (view self.new) result }
         ensures ok { IfOk result (λ moves. MakesCalls (Juggles class ∷ []) (Moved moves ∷ []) moment (view self.old) (view self.new)) }
         ensures small { IfOk result (λ moves. (moves.reclaimed < 2 ^ 32) × (moves.moved < 2 ^ 32)) }
-        ensures err { OnErr result (BreaksOff (Juggles class) moment (view self.old) (view self.new)) };
+        ensures err { IfErr result (λ e. BreaksOff e (Juggles class) moment (view self.old) (view self.new)) };
 
     /// Makes a call of the crawler's work on a slab class at a moment, and returns how many entries of each kind it saw.
     /// It sees at most 2^32 entries. Errors are those of `command`.
@@ -45,7 +45,7 @@ pub trait Calls: Drop {
         ensures ok { IfOk result (λ histogram. MakesCalls (Crawls class ∷ []) (Counted histogram ∷ []) moment (view self.old) (view self.new)) }
         ensures small { IfOk result (λ histogram. histogram.seen ≤ 2 ^ 32) }
         ensures kinds { IfOk result AddsUp }
-        ensures err { OnErr result (BreaksOff (Crawls class) moment (view self.old) (view self.new)) };
+        ensures err { IfErr result (λ e. BreaksOff e (Crawls class) moment (view self.old) (view self.new)) };
 
     /// Makes a call that sets the limit of chunks of a slab class, from 1 to 2^20. No moment is noted for it, so its exchange may
     /// have any. Errors are those of `command`.
@@ -56,5 +56,5 @@ pub trait Calls: Drop {
         requires bound { chunks ≤ 2 ^ 20 }
         ensures caller { GoesOn (view self.old) (view self.new) result }
         ensures ok { (moment : ℕ) → OnOk result (MakesCalls (Limits class chunks ∷ []) (Limited ∷ []) moment (view self.old) (view self.new)) }
-        ensures err { (moment : ℕ) → OnErr result (BreaksOff (Limits class chunks) moment (view self.old) (view self.new)) };
+        ensures err { (moment : ℕ) → IfErr result (λ e. BreaksOff e (Limits class chunks) moment (view self.old) (view self.new)) };
 }

@@ -1,44 +1,17 @@
 //! `%juggle`, the maintainer's directive: one call for each class that it names, and a text with the sums of their moves.
-ghost use Rattle.std.specs.Prelude.{◌+◌, ◌<◌, ◌≤◌, ◌^◌, ℕ, map, IfErr, IfOk, OnErr, OnOk};
+ghost use Rattle.std.specs.Prelude.{map, IfErr, IfOk, OnOk};
 ghost use Rattle.mc_proto.specs.{Answers.moves_of, Grammar.AreAmong};
 ghost use Rattle.mc_proto.specs.declared.request.Request.TheVariants as requests;
 ghost use Rattle.mc_script.specs.Calls.{Answers, Begins, BreaksAmong, Fails, GoesOn, MayAnswer, SumsUp};
-ghost use Rattle.mc_script.specs.{Exchanges.Juggles, Script.classes_from, Script.classes_named};
+ghost use Rattle.mc_script.specs.{Exchanges.Juggles, Script.classes_named};
 
 use crate::calls::Calls;
+use crate::target::numbers_of;
 use mc_item::{ClassNo, Fault, Moves};
 use mc_proto::{Limits, ReplyText, Target};
 use std::sync::Wait;
 
-// Juggles `count` classes in rising order from `first`, and returns the sums of their moves.
-fn juggle_from<C: Calls>(
-    rt: &impl Wait,
-    calls: &mut C,
-    first: u32,
-    count: u32,
-    moment: u64,
-) -> Result<Moves, Fault>
-    requires may { (C.view calls.old).may_call }
-    requires early { moment ≤ 2 ^ 62 }
-    requires numbers { first + count ≤ 2 ^ 32 }
-    requires there { (n : ℕ) → first ≤ n → n < first + count → (C.view calls.old).has_class (record { 0 = n }) }
-    ensures caller { GoesOn (C.view calls.old) (C.view calls.new) result }
-    ensures ok { IfOk result (λ moves. SumsUp Juggles moves_of (classes_from first count) moves moment (C.view calls.old) (C.view calls.new)) }
-    ensures err { OnErr result (BreaksAmong (map Juggles (classes_from first count)) moment (C.view calls.old) (C.view calls.new)) }
-{
-    let mut sums = Moves {
-        reclaimed: 0,
-        moved: 0,
-    };
-    for i in 0..count {
-        let moves = calls.juggle(rt, ClassNo(first + i), moment)?;
-        sums.reclaimed += moves.reclaimed;
-        sums.moved += moves.moved;
-    }
-    Ok(sums)
-}
-
-// Juggles the classes that the directive names, and returns the sums of their moves.
+// Juggles the classes that the directive names in rising order, and returns the sums of their moves.
 pub(crate) fn juggle_target<C: Calls>(
     rt: &impl Wait,
     limits: Limits,
@@ -50,12 +23,19 @@ pub(crate) fn juggle_target<C: Calls>(
     requires among { AreAmong limits target }
     ensures caller { GoesOn (C.view calls.old) (C.view calls.new) result }
     ensures ok { IfOk result (λ moves. SumsUp Juggles moves_of (classes_named limits target) moves moment (C.view calls.old) (C.view calls.new)) }
-    ensures err { OnErr result (BreaksAmong (map Juggles (classes_named limits target)) moment (C.view calls.old) (C.view calls.new)) }
+    ensures err { IfErr result (λ e. BreaksAmong e (map Juggles (classes_named limits target)) moment (C.view calls.old) (C.view calls.new)) }
 {
-    match target {
-        Target::All => juggle_from(rt, calls, 1, limits.classes, moment),
-        Target::Class(class) => juggle_from(rt, calls, class.0, 1, moment),
+    let (first, count) = numbers_of(limits, target);
+    let mut sums = Moves {
+        reclaimed: 0,
+        moved: 0,
+    };
+    for i in 0..count {
+        let moves = calls.juggle(rt, ClassNo(first + i), moment)?;
+        sums.reclaimed += moves.reclaimed;
+        sums.moved += moves.moved;
     }
+    Ok(sums)
 }
 
 /// Answers `%juggle`: makes a call for each class that it names, and adds the sums of the moves to the text.

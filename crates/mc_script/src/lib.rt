@@ -9,6 +9,7 @@ mod juggling;
 mod outcome;
 mod scripting;
 mod source;
+mod target;
 mod upkeep;
 
 pub use calls::Calls;

@@ -1,5 +1,5 @@
 //! Upkeep: the maintainer and the crawler work on all slab classes, at given moments (times in seconds).
-ghost use Rattle.std.specs.Prelude.{◌≡◌, ◌≤◌, ◌^◌, [], OnErr, OnOk};
+ghost use Rattle.std.specs.Prelude.{◌≡◌, ◌≤◌, ◌^◌, [], IfErr, OnOk};
 ghost use Rattle.std.specs.List.{All};
 ghost use Rattle.mc_script.specs.{Calls.BreaksAmong, Calls.GoesOn, Calls.MayAnswer, Run.LeavesCaller, Run.MayStart, Script.calls_of};
 ghost use Rattle.mc_script.specs.Upkeep.{KeepsUp, WorksAll, directive_of, many_calls, work_of};
@@ -33,7 +33,7 @@ fn keep_all<C: Calls>(
     requires ready { MayAnswer limits moment (C.view calls.old) }
     ensures caller { GoesOn (C.view calls.old) (C.view calls.new) result }
     ensures ok { OnOk result (WorksAll limits keeper moment (C.view calls.old) (C.view calls.new)) }
-    ensures err { OnErr result (BreaksAmong (calls_of limits (directive_of keeper)) moment (C.view calls.old) (C.view calls.new)) }
+    ensures err { IfErr result (λ e. BreaksAmong e (calls_of limits (directive_of keeper)) moment (C.view calls.old) (C.view calls.new)) }
 {
     match keeper {
         Keeper::Maintainer => {

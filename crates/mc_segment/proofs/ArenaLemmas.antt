@@ -7,11 +7,12 @@ use Rattle.mc_item.specs.declared.{lists.Entry.Entry, lists.Seg.Seg, lists.Seg.T
 use Rattle.mc_item.specs.declared.{lists.Seg.TheVariants.Temp}
 use Rattle.mc_rule.specs.Lists.{found, found_in, count_of, Lists, list_of, with_list, linked, unlinked, find, without, times, times_in}
 use Rattle.mc_segment.specs.declared.{arena.Node.Node, arena.Listed.Listed, ends.Ends.Ends, ends.Heads.Heads}
-use Rattle.mc_segment.specs.{Neighbours.with_newer, Neighbours.with_older, Neighbours.points_to, Neighbours.apply_newer, Neighbours.apply_older, Nodes.node, Nodes.node_at, Nodes.lacks}
+use Rattle.mc_segment.specs.{Neighbours.with_newer, Neighbours.with_older, Neighbours.points_to, Nodes.node, Nodes.node_at, Nodes.lacks}
 use Rattle.std.specs.HashMap.{spare}
 use Rattle.mc_segment.specs.Slots.{Slots, slot, renewed, reolded, place_newer, place_older}
 use Rattle.mc_segment.specs.Arena.{Held, held, all_bytes, code, part, nodes_of, ends_of, with_ends, pushed_ends, taken_ends, lists_in, AreNodesOf, IsArena}
-use Rattle.mc_segment.proofs.ChainLemmas.{by_eq, not_equal, some_none, walk_is, chain_cong, push_chain, take_chain, absent, node_entry, lacks_absent, first_lacked, names_lacked, cost_le, taken_length}
+use Rattle.mc_segment.proofs.ChainLemmas.{apply_newer, apply_older, by_eq, not_equal, some_none, walk_is, chain_cong, push_chain, take_chain, absent, node_entry, lacks_absent, first_lacked}
+use Rattle.mc_segment.proofs.ChainLemmas.{names_lacked, cost_le, taken_length}
 use Rattle.mc_segment.proofs.OneListLemmas.{entry_of, named, four, own_part, other_part, part_newer, part_relinked, still, quiet, untouched, with_count, with_bytes, numbered, one_if, at_most, times_at}
 
 pub whole : (f : ℕ → Option Listed) (next : ℕ) (h : Heads) (l : Lists) → IsArena f next h l → lists_in f h ≡ l

@@ -7,8 +7,16 @@ use Rattle.std.proofs.lemmas.{Bool.Decides.eqb_tells, Bool.false≢true, Bool.eq
 use Rattle.mc_item.specs.declared.lists.Entry.{Entry}
 use Rattle.mc_rule.specs.Lists.{find, without, cost_sum}
 use Rattle.mc_segment.specs.declared.arena.Node.{Node}
-use Rattle.mc_segment.specs.Neighbours.{with_newer, with_older, points_to, apply_older, apply_newer, end_of}
+use Rattle.mc_segment.specs.Neighbours.{with_newer, with_older, points_to, end_of}
 use Rattle.mc_segment.specs.Nodes.{node, first_number, last_from, node_at, lacks, distinct, walk, walked, IsChain}
+
+-- the node with the number q, after the node with the number `at` got another older neighbour
+abbrev pub apply_older : Option ℕ → Option ℕ → ℕ → Option Node → Option Node
+apply_older at to q o = if points_to q at then option_map (with_older to) o else o
+
+-- the node with the number q, after the node with the number `at` got another newer neighbour
+abbrev pub apply_newer : Option ℕ → Option ℕ → ℕ → Option Node → Option Node
+apply_newer at to q o = if points_to q at then option_map (with_newer to) o else o
 
 abbrev pub lacks_name : Option ℕ → List Entry → Bool
 lacks_name None es = true
@@ -30,13 +38,6 @@ node_lacks w [] q h = refl
 node_lacks w (e ∷ es) q h =
     let p = not_of (e.number == q) (lacks q es) h in
     rw (p.0) (node_lacks (Some e.number) es q p.1)
-
-pub node_some : (w : Option ℕ) (es : List Entry) (q : ℕ) → is_some (node_at w es q) ≡ (if lacks q es then false else true)
-node_some w [] q = refl
-node_some w (e ∷ es) q =
-    let later = node_some (Some e.number) es q in
-    elim (e.number == q) as (λ (b : Bool). is_some (if b then Some (node e w (first_number es)) else node_at (Some e.number) es q) ≡ (if (if b then false else lacks q es) then false else true))
-    [ true ↦ refl | false ↦ later ]
 
 pub node_entry : (w : Option ℕ) (es : List Entry) (q : ℕ) → option_map (λ n. n.entry) (node_at w es q) ≡ find q es
 node_entry w [] q = refl
@@ -346,16 +347,6 @@ cost_le f n o count bytes es m x c at =
 
 both_not : (a b : Bool) → a ≡ false → b ≡ true → (if a then false else b) ≡ true
 both_not a b p q = ap (λ x. if x then false else b) p ∙ q
-
--- a number that is taken out is gone
-pub gone_after : (m : ℕ) (es : List Entry) → distinct es ≡ true → lacks m (without m es) ≡ true
-gone_after m [] d = refl
-gone_after m (e ∷ es) d =
-    let p = both_of (lacks e.number es) (distinct es) d in
-    let later = gone_after m es p.1 in
-    by_eq e.number m (λ t. lacks m (if t then es else (e ∷ without m es)) ≡ true)
-    (λ same. ap (λ k. lacks k es) (sym same) ∙ p.0)
-    (λ other. both_not (e.number == m) (lacks m (without m es)) (not_equal e.number m other) later)
 
 pub lacks_absent : (m : ℕ) (es : List Entry) → find m es ≡ None → lacks m es ≡ true
 lacks_absent m [] h = refl

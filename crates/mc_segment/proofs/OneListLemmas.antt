@@ -7,10 +7,10 @@ use Rattle.mc_item.specs.declared.{lists.Entry.Entry, lists.Seg.Seg, lists.Seg.T
 use Rattle.mc_item.specs.declared.{lists.Seg.TheVariants.Temp}
 use Rattle.mc_rule.specs.Lists.{count_of, Lists, list_of, with_list, linked, cost_sum, times}
 use Rattle.mc_segment.specs.declared.{arena.Node.Node, arena.Listed.Listed}
-use Rattle.mc_segment.specs.Neighbours.{with_newer, with_older, points_to, apply_newer, apply_older}
+use Rattle.mc_segment.specs.Neighbours.{with_newer, with_older, points_to}
 use Rattle.mc_segment.specs.Nodes.{node, first_number, node_at, lacks, distinct}
 use Rattle.mc_segment.specs.{Slots.renewed, Slots.reolded, Slots.place_newer, Slots.place_older, Arena.all_bytes, Arena.code, Arena.part}
-use Rattle.mc_segment.proofs.ChainLemmas.{by_eq, both_of, not_of, not_equal, some_none}
+use Rattle.mc_segment.proofs.ChainLemmas.{apply_newer, apply_older, by_eq, both_of, not_of, not_equal, some_none}
 
 abbrev pub entry_of : Option Node → Option Entry
 entry_of o = option_map (λ (n : Node). n.entry) o

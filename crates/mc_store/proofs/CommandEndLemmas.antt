@@ -23,7 +23,7 @@ use Rattle.mc_store.proofs.FullLemmas.{full_buried, full_same}
 use Rattle.mc_store.proofs.AccountLemmas.{enters_both, enters_more, grows_itself}
 use Rattle.mc_store.proofs.EnteredLemmas.{StillMakes, command_as, makes_buried, makes_then_tried, makes_tried, no_stretch, noted_still}
 use Rattle.mc_store.specs.Trying.{StillBuries, StillTries}
-use Rattle.mc_store.specs.declared.replied.Replied.{Replied}
+use Rattle.mc_pull.specs.declared.attempting.Replied.{Replied}
 use Rattle.mc_store.proofs.UnderLockLemmas.{IsSearched, active_moves, cut_behind, cut_from, replied_behind, replied_from, site_both}
 
 module _ (config : Config) (command : Command) (turn : Turn) where

@@ -12,7 +12,7 @@ use Rattle.mc_item.specs.declared.reply.Room.TheVariants as rooms
 use Rattle.mc_rule.specs.{Lists.IsFull, Lists.from_tail, Lists.list_of, Lists.lists_of, Pairs.IsKeyOf, Pairs.IsRefusal, Places.Has, Segment.Rule, Places.Stands}
 use Rattle.mc_evidence.specs.{Refusals.HasTried, Refusals.NoneNear, Refusals.WasTried, Seen.class_events, Seen.classes_seen}
 use Rattle.mc_evidence.proofs.{EvidenceGrowthLemmas.tried_later, SeenLemmas.class_events-map, SeenLemmas.classes_grow}
-use Rattle.mc_pull.specs.{Tried.IsNoneNear, Question.IsClassOf, Rounds.ForcesHot, Rounds.IsRoom, Rounds.IsRoomRound, Rounds.Repeats, Rounds.Rounds, Rounds.Walks, Rounds.rounds}
+use Rattle.mc_pull.specs.{Tried.IsNoneNear, Question.IsClassOf, Rounds.ForcesHot, Rounds.IsRoomRound, Rounds.Repeats, Rounds.Rounds, Rounds.Walks, Rounds.rounds}
 use Rattle.mc_pull.specs.Pulled.{did_something}
 use Rattle.mc_pull.specs.declared.{judge.Mode.Mode, judge.Mode.TheVariants.Evict, judge.Mode.TheVariants.Force, looking.Answer.Answer, pulled.Pulled.Pulled}
 use Rattle.mc_pull.proofs.SearchTriedLemmas.{walk_tried}
@@ -20,7 +20,7 @@ use Rattle.mc_board.specs.Histories.{Grows, list_at}
 use Rattle.mc_board.specs.declared.rule.Sight.{Sight}
 use Rattle.mc_board.proofs.PrefixLemmas.{prefix_trans}
 use Rattle.mc_segment.specs.{ClassCalls.Makes, ClassCalls.Stays, ClassCalls.refused_event, ClassState.ClassView, ClassState.chunks_for, ClassState.class_view, ClassState.opened}
-use Rattle.mc_store.specs.Earned.{HasGoneThrough, HasSearched, IsInVain, IsEarned, IsEarnedAt, IsEarnedIn, IsLastResort}
+use Rattle.mc_store.specs.Earned.{HasGoneThrough, HasSearched, IsEarned, IsEarnedAt, IsEarnedIn, IsLastResort}
 use Rattle.mc_store.specs.{Accounts.Stretch, Accounts.stretch_of, Locked.class_lock, Sides.class_told}
 use Rattle.mc_store.specs.Reached.{IsSeenState}
 use Rattle.mc_store.specs.Searches.{HasSeenOf, IsSearchBroken, IsSearchFor, IsSearchUpTo, IsSearchedWith, IsSearchedIf, IsSearchedOnce, Searcher, rounds_in}
@@ -48,19 +48,24 @@ opened_again config v class made is =
 rounds_same : (config : Config) (v : ClassView) (class : ClassNo) (who : Who) (moment : ℕ) → IsClassOf config v → v.number ≡ class → rounds v who moment config ≡ rounds (opened config class) who moment config
 rounds_same config v class who moment made is = ap (λ (c : ClassView). rounds c who moment config) (opened_again config v class made is)
 
--- rounds in vain are all rounds of a search
-pub gone_through : (config : Config) (number : StripeNo) (v : ClassView) (class : ClassNo) (who : Who) (moment : ℕ) (after : List ClassEvent) → IsClassOf config v → v.number ≡ class
-    → IsInVain config number v who moment v.history after → HasGoneThrough config number class who moment after
-gone_through config number v class who moment after made is vain = record {
-  before = v.history;
-  in_vain = record {
-    answers = vain.answers;
-    rounds_are = subst (λ (r : Rounds). IsRoom r v.history vain.answers after false) (rounds_same config v class who moment made is) vain.rounds_are;
-    had = vain.had;
-  };
-}
-
 -- ---- one search
+
+-- what holds of its states holds in other words, too
+pub searched_more : (r : Rounds) (number : StripeNo) (R Q : Stripe → Type 0) → ((s : Stripe) → R s → Q s) → (before after : List ClassEvent) (found : Bool)
+    → IsSearchedWith r number R before after found → IsSearchedWith r number Q before after found
+searched_more r number R Q more before after found it = record { answers = it.answers; room = it.room; had = it.had; states = judged_more R Q more it.answers it.states }
+
+-- rounds that found no chunk are all rounds of a search
+pub gone_through : (by : Searcher) (v : ClassView) (States : Stripe → Type 0) (class : ClassNo) (after : List ClassEvent) (found : Bool) → IsClassOf by.config v → v.number ≡ class
+    → found ≡ false → IsSearchedWith (rounds v by.who by.moment by.config) by.number States v.history after found → HasGoneThrough by.config by.number class by.who by.moment after
+gone_through by v States class after found made is vain searched =
+    let Any : Stripe → Type 0 = λ s. Unit {0} in
+    let all = subst (IsSearchedWith (rounds v by.who by.moment by.config) by.number Any v.history after) vain
+    (searched_more (rounds v by.who by.moment by.config) by.number States Any (λ s is. tt) v.history after found searched) in
+    record {
+      before = v.history;
+      in_vain = subst (λ (r : Rounds). IsSearchedWith r by.number Any v.history after false) (rounds_same by.config v class by.who by.moment made is) all;
+    }
 
 -- rounds that made room in a class are one search of it
 pub searched_once : (by : Searcher) (v : ClassView) (States : Stripe → Type 0) (after : List ClassEvent) (found : Bool) → IsClassOf by.config v
@@ -74,12 +79,9 @@ pub searched_broken : (by : Searcher) (v : ClassView) (States : Stripe → Type 
 searched_broken by v States after made broken =
     subst (λ (r : Rounds). IsSearchBroken r by.number States v.history after) (rounds_same by.config v v.number by.who by.moment made refl) broken
 
--- what holds of its states holds in other words, too
 pub once_more : (r : Rounds) (number : StripeNo) (R Q : Stripe → Type 0) → ((s : Stripe) → R s → Q s) → (before after : List ClassEvent) → IsSearchedOnce r number R before after
     → IsSearchedOnce r number Q before after
-once_more r number R Q more before after once =
-    let it = once.1 in
-    (once.0, record { answers = it.answers; room = it.room; had = it.had; states = judged_more R Q more it.answers it.states })
+once_more r number R Q more before after once = (once.0, searched_more r number R Q more before after once.0 once.1)
 
 pub broken_more : (r : Rounds) (number : StripeNo) (R Q : Stripe → Type 0) → ((s : Stripe) → R s → Q s) → (before after : List ClassEvent) → IsSearchBroken r number R before after
     → IsSearchBroken r number Q before after
@@ -90,7 +92,7 @@ broken_more r number R Q more before after broken =
 pub room_wider : (r : Rounds) (number : StripeNo) (R Q : Stripe → Type 0) → ((s : Stripe) → R s → Q s) → (before after : List ClassEvent) (result : Result Bool Fault)
     → MatchResult result (IsSearchedWith r number R before after) (λ fault. IsSearchBroken r number R before after)
     → MatchResult result (IsSearchedWith r number Q before after) (λ fault. IsSearchBroken r number Q before after)
-room_wider r number R Q more before after (Ok found) it = record { answers = it.answers; room = it.room; had = it.had; states = judged_more R Q more it.answers it.states }
+room_wider r number R Q more before after (Ok found) it = searched_more r number R Q more before after found it
 room_wider r number R Q more before after (Err fault) it = broken_more r number R Q more before after it
 
 -- a walk only adds to a history

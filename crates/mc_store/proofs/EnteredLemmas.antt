@@ -23,9 +23,7 @@ use Rattle.mc_pull.specs.declared.judge.Done.TheVariants as done
 use Rattle.mc_pull.specs.{Judgement.done_of, Lent.EachPair, Perform.Call, Performed.GainsPart, Performed.IsPerformed, Performed.IsUntouched, Question.question}
 use Rattle.mc_pull.specs.Performed as performed
 use Rattle.mc_pull.specs.Settled.{IsSettled, done_class_events}
-use Rattle.std.proofs.lemmas.List.Elements.{All-head}
-use Rattle.mc_pull.specs.Growth.{SuitsUpkeep}
-use Rattle.mc_pull.proofs.{ChunkEventLemmas.suits_done, EventsLemmas.events_so}
+use Rattle.mc_pull.proofs.{ChunkEventLemmas.evicts_nothing, EventsLemmas.events_so}
 use Rattle.mc_store.specs.Accounts.{FollowsItem, IsClassLock, IsInClass, IsOfBurial, IsOfCommand, IsOfSearch, IsOfStretch, IsOfTry, RemovesDead, StillCalls, Stretch}
 use Rattle.mc_store.specs.{Callers.answered_at, Locked.class_lock, Locked.setting_of, Passes.CallerView, Passes.HasAsked, Sides.ClassSide, Sides.StripeSide}
 use Rattle.mc_store.specs.{Sides.class_told, Sides.stripe_sight, Sides.stripe_told, Trying.StillBuries, Trying.StillSearches, Trying.StillTries, Trying.noted_on}
@@ -66,7 +64,7 @@ removes_dead c cache who number moment at done.Reclaimed is = ((tt, number_itsel
 removes_dead c cache who number moment at done.ToWarm is = tt
 removes_dead c cache who number moment at done.WithinWarm is = tt
 removes_dead c cache who number moment at done.ToCold is = tt
-removes_dead c cache who number moment at done.Evicted is = absurd (All-head SuitsUpkeep _ [] (suits_done c (question who number Dead moment) cache at done.Evicted is))
+removes_dead c cache who number moment at done.Evicted is = absurd (evicts_nothing c (question who number Dead moment) cache refl is)
 removes_dead c cache who number moment at done.Stayed is = tt
 removes_dead c cache who number moment at (done.Alive expiry) is = tt
 removes_dead c cache who number moment at done.Stranger is = tt

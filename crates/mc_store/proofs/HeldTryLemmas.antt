@@ -27,7 +27,7 @@ use Rattle.mc_store.specs.{Earned.HasGivenUp, Earned.IsEarnedAt, Earned.IsEarned
 use Rattle.mc_store.specs.{Full.HasSeenFull, Full.IsRoomOf, Full.LacksEntries, Full.LacksPlaces, Serving.IsShortFor}
 use Rattle.mc_store.specs.{Sides.ClassSide, Sides.StripeSide, Sides.class_told, Trying.IsMadeBy, Trying.IsTriedUnder}
 use Rattle.mc_store.specs.Trying.{Stay, StillTries}
-use Rattle.mc_store.specs.declared.replied.Replied.{Replied}
+use Rattle.mc_pull.specs.declared.attempting.Replied.{Replied}
 use Rattle.mc_store.specs.Held.{IsMadeIn, IsRefusedAt, IsStillFull, IsTriedOn, MayWant, Suffice, WantsAlone, WantsChunk, nothing}
 use Rattle.mc_store.proofs.{CommandLemmas.changes_two, CommandLemmas.link_one, CommandLemmas.not_dead, CommandLemmas.visible_alive, EarnedRefusalLemmas.earned_sees, NeededClassLemmas.fresh_classes}
 use Rattle.mc_store.proofs.EnteredLemmas.{heard_tried, tries_heard}
@@ -73,7 +73,7 @@ module _ (config : Config) (own own_new : StripeSide) (caller caller_new : Calle
       → LacksEntries config own.stripe own_new.sight made turn.moment)
       → (r : Result Tried Fault) → IfOk r (IsTriedUnder config own own_new caller caller_new made turn given cs ds)
       → IfOk r (IsTriedOn config own own_new caller caller_new made turn home other AnyFull)
-  tried_on earned full short (Ok (Made reply woken)) tried = record { alive = tried.uses.alive; room = tried.room; made_is = tried.made_is; noted = tried.noted; earned = earned tried.room tried.uses.taken }
+  tried_on earned full short (Ok (Made replied)) tried = record { alive = tried.uses.alive; room = tried.room; made_is = tried.made_is; noted = tried.noted; earned = earned tried.room tried.uses.taken }
   tried_on earned full short (Ok (Wants want)) tried = (tried.0, tried.1, may_want full short want tried.2 tried.3)
   tried_on earned full short (Err fault) tried = tt
 
@@ -82,7 +82,7 @@ module _ (config : Config) (own heard end : StripeSide) (caller caller_new : Cal
   module _ (given : Given) (cs ds : List ClassSide) where
     tried_seen : (sight : Sight) → Grows own.sight sight → (r : Result Tried Fault) → IfOk r (IsTriedUnder config (record own { sight = sight }) end caller caller_new made turn given cs ds)
         → IfOk r (IsTriedUnder config own end caller caller_new made turn given cs ds)
-    tried_seen sight sees (Ok (Made reply woken)) tried = record {
+    tried_seen sight sees (Ok (Made replied)) tried = record {
       room = tried.room;
       fate = tried.fate;
       uses = tried.uses;

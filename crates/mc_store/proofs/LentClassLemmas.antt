@@ -7,12 +7,24 @@ use Rattle.mc_item.specs.declared.{class_event.ClassEvent.ClassEvent, event.Even
 use Rattle.mc_item.specs.declared.{stripe_event.StripeEvent.StripeEvent}
 use Rattle.mc_item.specs.declared.event.Event.TheVariants as events
 use Rattle.mc_rule.specs.Segment.{Rule}
+use Rattle.mc_item.specs.declared.reply.Room.TheVariants as rooms
 use Rattle.mc_board.proofs.PrefixLemmas.{same_or_not}
 use Rattle.mc_segment.specs.ClassState.{ClassView}
 use Rattle.mc_stripe.specs.StripeState.{Stripe}
 use Rattle.mc_pull.specs.{Agreeing.HasRefusal, Agreeing.IsApart, Growth.GainsEvents, Lent.EachPair, Perform.Call, Sight.KeepsSights, Sight.TellsStill}
 use Rattle.mc_pull.specs.Performed.{ClassStays, GainsPart, IsPerformed, IsUntouched, did_event, events_in}
-use Rattle.mc_store.specs.{Performing.IsOneOf, Performing.IsRefusedIn, Sides.class_told, Sides.stripe_told}
+use Rattle.mc_store.specs.{Sides.class_told, Sides.stripe_told}
+
+-- the number is that of one of these classes
+abbrev pub IsOneOf : ClassNo → List ClassView → Type 0
+IsOneOf number [] = ⊥
+IsOneOf number (v ∷ vs) = (number ≡ v.number) ⊎ IsOneOf number vs
+
+-- if a room is a refusal, one of these classes refused
+abbrev pub IsRefusedIn : Room → List ClassView → Type 0
+IsRefusedIn (rooms.Refused class place) vs = IsOneOf class vs
+IsRefusedIn (rooms.At link) vs = Unit {0}
+IsRefusedIn rooms.Keep vs = Unit {0}
 
 -- ---- a history that has only grown begins with what its owner told
 

@@ -18,8 +18,8 @@ use Rattle.mc_pull.specs.{Agreeing.AgreeNow, Agreeing.IsApart, Lent.EachPair, Si
 use Rattle.mc_pull.specs.Growth as classes
 use Rattle.mc_pull.specs.Question as made
 use Rattle.mc_pull.proofs.GrowthLemmas.{class_later}
-use Rattle.mc_store.proofs.{ShortHistoryLemmas.stripe_made, CallerLemmas.called_sees, LentClassLemmas.one_or_apart}
-use Rattle.mc_store.specs.{Callers.AreCalled, Performing.IsOneOf, Sides.ClassSide, Sides.StripeSide, Sides.class_told, Sides.stripe_told}
+use Rattle.mc_store.proofs.{ShortHistoryLemmas.stripe_made, CallerLemmas.called_sees, LentClassLemmas.IsOneOf, LentClassLemmas.one_or_apart}
+use Rattle.mc_store.specs.{Callers.AreCalled, Sides.ClassSide, Sides.StripeSide, Sides.class_told, Sides.stripe_told}
 use Rattle.mc_store.specs.Locked.{IsHeldClass, IsLockedStripe, class_lock, locks_for, setting_of}
 
 -- ---- what was seen

@@ -1,5 +1,5 @@
 -- Stripes and classes in the order of their numbers, with one more at the end.
-use Rattle.std.proofs.Common.{◌≡◌, ◌≢◌, ◌⊎◌, ◌+◌, ◌-◌, ◌<◌, ◌≤◌, ℕ, zero, suc, List, [], ◌∷◌, ◌++◌, drop, get_or, length, length-drop, Some, slice_get, refl, ap, sym, ◌∙◌, inl, inr, ⊎_elim, subst, arith}
+use Rattle.std.proofs.Common.{◌≡◌, ◌≢◌, ◌+◌, ◌-◌, ◌<◌, ◌≤◌, ℕ, zero, suc, List, [], ◌∷◌, ◌++◌, drop, get_or, length, length-drop, Some, slice_get, refl, ap, sym, ◌∙◌, ⊎_elim, subst, arith}
 use Rattle.std.specs.Prelude.{remove, slice_index_or}
 use Rattle.std.specs.List.{All}
 use Rattle.std.specs.List.Sorted.{IsNonDecreasingBy}
@@ -11,13 +11,6 @@ use Rattle.atomic_table.specs.Seated.{TableId}
 use Rattle.mc_item.specs.declared.config.Config.{Config}
 use Rattle.mc_store.specs.{Finals.AreClasses, Finals.AreStripes, Passes.ArePasses, Passes.PassView, Passes.new_pass, Locked.IsLockedClass}
 use Rattle.mc_store.specs.{Locked.IsLockedStripe, Sides.AreClassesOn, Sides.AreStripesOn, Sides.ClassSide, Sides.StripeSide}
-
--- what stands at a place of a list with one more at its end stood there before, or is that one
-pub get_push : {A : Type 0} (xs : List A) (x y : A) (k : ℕ) → slice_get (xs ++ x ∷ []) k ≡ Some y → (slice_get xs k ≡ Some y) ⊎ ((x ≡ y) × (length xs ≡ k))
-get_push [] x y zero e = inr (cc e, refl)
-get_push [] x y (suc k) e = absurd (cc e)
-get_push (z ∷ xs) x y zero e = inl e
-get_push (z ∷ xs) x y (suc k) e = ⊎_elim (λ t. inl t) (λ t. inr (t.0, ap suc t.1)) (get_push xs x y k e)
 
 -- something stands at each place below the length
 pub get_some : {A : Type 0} (xs : List A) (k : ℕ) → k < length xs → (x : A) × (slice_get xs k ≡ Some x)

@@ -11,7 +11,7 @@ use Rattle.mc_evidence.specs.Setting.{IsClass}
 use Rattle.mc_stripe.specs.StripeState.{Stripe, cache_now}
 use Rattle.mc_stripe.specs.declared.trying.Turn.{Turn}
 use Rattle.mc_store.specs.{Held.Ends, Locked.IsLockedStripe, Locked.setting_of, Passes.CallerView, Sides.StripeSide, Waking.MakesActive, Waking.woken_in}
-use Rattle.mc_store.specs.declared.replied.Replied.{Replied}
+use Rattle.mc_pull.specs.declared.attempting.Replied.{Replied}
 use Rattle.mc_store.proofs.NeededClassLemmas.{active_class}
 
 -- the cache after one event more

@@ -20,14 +20,14 @@ use Rattle.mc_pull.specs.Growth as classes
 use Rattle.mc_pull.specs.Question as made
 use Rattle.mc_store.specs.{Callers.AreCalled, Callers.answered_at, Callers.asked_for, Callers.calls_told, Passes.CallerView, Passes.HasAsked, Passes.HasCalled}
 use Rattle.mc_store.specs.Locked.{HasBegunAs, IsHeldClass, IsLockedClass, IsLockedStripe, caller_place, locks_for}
-use Rattle.mc_store.specs.{Accounts.FollowsItem, Accounts.IsClassLock, Accounts.IsOfTry, Performing.IsRefusedIn, Serving.class_side, Sides.ClassSide, Sides.StripeSide, Sides.class_told, Sides.stripe_sight}
+use Rattle.mc_store.specs.{Accounts.FollowsItem, Accounts.IsClassLock, Accounts.IsOfTry, Serving.class_side, Sides.ClassSide, Sides.StripeSide, Sides.class_told, Sides.stripe_sight}
 use Rattle.mc_store.specs.{Sides.stripe_told, Trying.IsTriedUnder, Trying.Stay, Trying.StillTries, Trying.is_made, Trying.noted_on}
 use Rattle.mc_board.specs.Accounts.{with_new}
 use Rattle.mc_item.specs.declared.class_event.ClassEvent.{ClassEvent}
 use Rattle.mc_board.proofs.{PrefixLemmas.prefix_trans, SeenLemmas.list_at_same}
 use Rattle.mc_store.proofs.AccountLemmas.{grows_itself, still_both, still_same, whole_grows}
 use Rattle.mc_store.proofs.EnteredLemmas.{GainsAll, all_from, class_entered, following_performed, has_beside, is_class_lock, lock_apart, noted_still, stripe_entered, told_has, tries_asked}
-use Rattle.mc_store.proofs.{SeenStripeLemmas.on_err_both, SeenStripeLemmas.on_err_more, CallerLemmas.called_performed, LentClassLemmas.lent_grow, LentClassLemmas.own_behind}
+use Rattle.mc_store.proofs.{SeenStripeLemmas.on_err_both, SeenStripeLemmas.on_err_more, CallerLemmas.called_performed, LentClassLemmas.IsRefusedIn, LentClassLemmas.lent_grow, LentClassLemmas.own_behind}
 use Rattle.mc_store.proofs.OwnCallLemmas.{class_own_by, stripe_performed_by}
 use Rattle.mc_store.proofs.OwnEventLemmas.{GainsFit, gains_performed}
 use Rattle.mc_store.proofs.{OwnEventLemmas.locked_told, OwnEventLemmas.noted_called, LockKeepsLemmas.grows_trans, LockKeepsLemmas.seen_on, LockKeepsLemmas.stripe_sees}

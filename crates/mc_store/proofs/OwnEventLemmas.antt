@@ -31,10 +31,10 @@ use Rattle.mc_pull.specs.{
   Performed.IsUntouched,
 }
 use Rattle.mc_pull.specs.{Question.Question, Question.question}
-use Rattle.mc_pull.specs.Suited.{AreSuited, MayNeedChunk, SuitsCommand}
+use Rattle.mc_pull.specs.Suited.{MayNeedChunk, SuitsCommand}
 use Rattle.mc_pull.specs.Performed as performed
 use Rattle.mc_pull.specs.Settled.{IsSettled, done_class_events, class_with, cold_events, warm_events}
-use Rattle.mc_pull.proofs.{EventsLemmas.events_so, SuitedLemmas.suited_dead, SuitedLemmas.suited_part}
+use Rattle.mc_pull.proofs.{EventsLemmas.events_so, SuitedLemmas.AreSuited, SuitedLemmas.suited_dead, SuitedLemmas.suited_part}
 use Rattle.mc_crawl.specs.Crawl.{AreReclaims, Reclaims}
 use Rattle.mc_store.specs.Callers.{answered_at, asked_for, call_events, crawling_of, juggling_of}
 use Rattle.mc_store.specs.Locked.{HasBegunAs, HasBegunCommand, IsHeldClass, IsLockedClass, locks_for}

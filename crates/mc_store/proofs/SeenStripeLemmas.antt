@@ -18,7 +18,7 @@ use Rattle.mc_store.specs.{Accounts.Enters, Accounts.IsOfCommand, Held.Ends, Loc
 use Rattle.mc_store.specs.{Calls.IsCutBy, Calls.IsReplied, Calls.IsRepliedBy, Calls.IsSeenGrow, Commands.IsAnswered, Commands.IsCut, Headline.answered_did, Hits.IsOffered, Hits.OffersOne}
 use Rattle.mc_store.specs.{Hits.queue_of, Hits.with_offer, Waking.MakesActive, Waking.reply_in, Waking.woken_in}
 use Rattle.mc_store.proofs.{AccountLemmas.enters_later, AccountLemmas.whole_grows, AccountLemmas.whole_shared, LockKeepsLemmas.site_of_number}
-use Rattle.mc_store.specs.declared.replied.Replied.{Replied}
+use Rattle.mc_pull.specs.declared.attempting.Replied.{Replied}
 use Rattle.mc_store.proofs.{EarnedRefusalLemmas.search_wider, EarnedRefusalLemmas.told_sees, EarnedRefusalLemmas.up_to_wider, FullLemmas.full_grows, SyncedStepLemmas.map_length}
 use Rattle.mc_store.specs.Callers.{HasNoneOf, asked_for, answered_at, turns_of, calls_told, moment_of}
 use Rattle.mc_store.specs.Passes.{CallerView, PassView, HasAsked, HasCalled, caller_of, next_who, pass_of}

@@ -12,8 +12,8 @@ use Rattle.mc_segment.specs.ClassState.{ClassView}
 use Rattle.mc_stripe.specs.{StripeCalls.KeepsSite, StripeState.Stripe}
 use Rattle.mc_pull.specs.{Agreeing.AgreeNow, Perform.Call, Sight.BacksStill, Sight.KeepsSights, Sight.SuitsStill}
 use Rattle.mc_pull.specs.Growth as classes
-use Rattle.mc_store.proofs.{CallerLemmas.called_sees, LentClassLemmas.apart_tells}
-use Rattle.mc_store.specs.{Callers.AreCalled, Locked.IsHeldClass, Locked.IsLockedStripe, Locked.class_lock, Locked.locks_for, Performing.IsRefusedIn}
+use Rattle.mc_store.proofs.{CallerLemmas.called_sees, LentClassLemmas.IsRefusedIn, LentClassLemmas.apart_tells}
+use Rattle.mc_store.specs.{Callers.AreCalled, Locked.IsHeldClass, Locked.IsLockedStripe, Locked.class_lock, Locked.locks_for}
 use Rattle.mc_store.specs.{Sides.ClassSide, Sides.StripeSide, Sides.class_told, Sides.stripe_told}
 use Rattle.mc_store.proofs.LockKeepsLemmas.{IsHeard, class_after, heard_before, heard_class, heard_stripe, stripe_after}
 

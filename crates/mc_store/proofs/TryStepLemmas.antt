@@ -14,22 +14,23 @@ use Rattle.mc_pull.specs.declared.{attempting.Tried.Tried, attempting.Tried.TheV
 use Rattle.mc_pull.specs.{Agreeing.KeepsAgreements, Attempt.GivesHome, Attempt.IsAny, Attempt.IsOffered, Attempt.IsTriedBy, Attempt.OffersHome, Perform.Call}
 use Rattle.mc_pull.specs.{Perform.answer_to, Perform.call, Performed.IsPerformed, Performed.IsUntouched, Sight.KeepsSights}
 use Rattle.mc_pull.proofs.PerformedLemmas.{untouched_kept, untouched_seen}
-use Rattle.mc_store.specs.{Performing.IsOneOf, Performing.IsRefusedIn, Passes.CallerView, Sides.ClassSide, Sides.StripeSide, Trying.IsTriedUnder}
+use Rattle.mc_store.proofs.LentClassLemmas.{IsOneOf, IsRefusedIn}
+use Rattle.mc_store.specs.{Passes.CallerView, Sides.ClassSide, Sides.StripeSide, Trying.IsTriedUnder}
 use Rattle.mc_store.specs.Trying.{Stay, StillTries, is_made, noted_on}
 
 -- what a try came to, where only that it made its command is asked
 abbrev pub result_of : Result Tried Fault → Result (Unit {0}) Fault
-result_of (Ok (Made reply woken)) = Ok tt
+result_of (Ok (Made replied)) = Ok tt
 result_of (Ok (Wants want)) = Err NoMemory
 result_of (Err fault) = Err fault
 
 pub when : (P : Type 0) (t : Result Tried Fault) → (is_made t ≡ true → P) → OnOk (result_of t) P
-when P (Ok (Made reply woken)) there = there refl
+when P (Ok (Made replied)) there = there refl
 when P (Ok (Wants want)) there = tt
 when P (Err fault) there = tt
 
 pub unless : (P : Type 0) (t : Result Tried Fault) → (is_made t ≡ false → P) → OnErr (result_of t) P
-unless P (Ok (Made reply woken)) there = tt
+unless P (Ok (Made replied)) there = tt
 unless P (Ok (Wants want)) there = there refl
 unless P (Err fault) there = there refl
 
@@ -66,7 +67,7 @@ module _ (config : Config) (s s_new : Stripe) (made : Command) (turn : Turn) (gi
 
   -- the room that a try took
   abbrev pub room_at : (t : Result Tried Fault) → TriedBy t → Room
-  room_at (Ok (Made reply woken)) tried = tried.room
+  room_at (Ok (Made replied)) tried = tried.room
   room_at (Ok (Wants want)) tried = rooms.Keep
   room_at (Err fault) tried = rooms.Keep
 
@@ -74,27 +75,27 @@ module _ (config : Config) (s s_new : Stripe) (made : Command) (turn : Turn) (gi
   call_at t tried = call turn.who made turn.moment (room_at t tried)
 
   pub performed_at : (t : Result Tried Fault) (tried : TriedBy t) → OnOk (result_of t) (IsPerformed s s_new (call_at t tried) vs ws)
-  performed_at (Ok (Made reply woken)) tried = tried.performed
+  performed_at (Ok (Made replied)) tried = tried.performed
   performed_at (Ok (Wants want)) tried = tt
   performed_at (Err fault) tried = tt
 
   pub untouched_at : (t : Result Tried Fault) → TriedBy t → OnErr t (IsUntouched s s_new vs ws) → OnErr (result_of t) (IsUntouched s s_new vs ws)
-  untouched_at (Ok (Made reply woken)) tried err = tt
+  untouched_at (Ok (Made replied)) tried err = tt
   untouched_at (Ok (Wants want)) tried err = tried.0
   untouched_at (Err fault) tried err = err
 
   pub kept_at : KeepsSite s s_new → (t : Result Tried Fault) (tried : TriedBy t) → OnErr t (IsUntouched s s_new vs ws) → KeepsAgreements (call_at t tried) s s_new vs ws
-  kept_at site (Ok (Made reply woken)) tried err = tried.agreement
+  kept_at site (Ok (Made replied)) tried err = tried.agreement
   kept_at site (Ok (Wants want)) tried err = untouched_kept config s s_new (call turn.who made turn.moment rooms.Keep) vs ws site tried.0
   kept_at site (Err fault) tried err = untouched_kept config s s_new (call turn.who made turn.moment rooms.Keep) vs ws site err
 
   pub seen_at : KeepsSite s s_new → (t : Result Tried Fault) (tried : TriedBy t) → OnErr t (IsUntouched s s_new vs ws) → KeepsSights (call_at t tried) s s_new vs ws
-  seen_at site (Ok (Made reply woken)) tried err = tried.sight
+  seen_at site (Ok (Made replied)) tried err = tried.sight
   seen_at site (Ok (Wants want)) tried err = untouched_seen config s s_new (call turn.who made turn.moment rooms.Keep) vs ws site tried.0
   seen_at site (Err fault) tried err = untouched_seen config s s_new (call turn.who made turn.moment rooms.Keep) vs ws site err
 
   pub refused_at : (refused : Option ℕ) → IsOffered given refused turn.who vs → (t : Result Tried Fault) (tried : TriedBy t) → IsRefusedIn (room_at t tried) vs
-  refused_at refused offered (Ok (Made reply woken)) tried = taken_refused given refused turn.who vs offered _ tried.room tried.uses.taken
+  refused_at refused offered (Ok (Made replied)) tried = taken_refused given refused turn.who vs offered _ tried.room tried.uses.taken
   refused_at refused offered (Ok (Wants want)) tried = tt
   refused_at refused offered (Err fault) tried = tt
 
@@ -109,13 +110,13 @@ module _ (config : Config) (own own_new : StripeSide) (made : Command) (turn : T
   pub under_tried : (t : Result Tried Fault) → IfOk t (IsTriedBy config own.stripe own_new.stripe made turn given vs ws)
       → (is_made t ≡ true → StillTries config turn own own_new (noted_on own.stripe caller) caller_new) → (is_made t ≡ false → StillTries config turn own own_new caller caller_new)
       → (IsUntouched own.stripe own_new.stripe vs ws → Stay cs ds) → IfOk t (IsTriedUnder config own own_new caller caller_new made turn given cs ds)
-  under_tried (Ok (Made reply woken)) tried noted unnoted stay = record {
+  under_tried (Ok (Made replied)) tried noted unnoted stay = record {
     room = tried.room;
     fate = tried.fate;
     uses = tried.uses;
     made_is = record {
       reply_is = tried.reply_is;
-      woken = woken_at config own.stripe own_new.stripe made turn given vs ws tried.room tried.fate tried.uses.fate_is woken tried.woken_is;
+      woken = woken_at config own.stripe own_new.stripe made turn given vs ws tried.room tried.fate tried.uses.fate_is replied.woken tried.woken_is;
       history_is = tried.performed.stripe;
     };
     noted = noted refl;

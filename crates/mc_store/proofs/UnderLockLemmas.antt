@@ -15,7 +15,7 @@ use Rattle.mc_pull.specs.{Perform.answer_to, Perform.call, Perform.item_before, 
 use Rattle.mc_store.specs.Commands.{IsCut, IsSearch, LeadsUp, burial}
 use Rattle.mc_store.proofs.CommandLemmas.{buried_alive, buried_row, not_dead, searches_none}
 use Rattle.mc_store.specs.{Callers.answered_at, Calls.IsRepliedAs, Earned.IsEarned, Performing.IsMadeOnStripe, Serving.GrowsBut, Waking.MakesActive}
-use Rattle.mc_store.specs.declared.replied.Replied.{Replied}
+use Rattle.mc_pull.specs.declared.attempting.Replied.{Replied}
 
 -- of a lock whose history was told, that is what was seen
 pub told_at : (sight : Sight) (lock : ℕ) (list : List Event) (new : Sight) (other : ℕ) (is : List Event) → new ≡ with_seen sight lock list → other ≡ lock → list ≡ is → list_at new.seen other ≡ is

@@ -23,7 +23,7 @@ use Rattle.mc_pull.specs.{Settled.done_class_events, Settled.cold_events, Settle
 use Rattle.mc_pull.specs.Tried.{AreHad, AreTries, IsNoneNear, IsTried, IsTry}
 use Rattle.mc_pull.proofs.OutcomeLemmas.{Means, done_is, outcome_means}
 use Rattle.mc_store.proofs.CommandLemmas.{alive_behind}
-use Rattle.mc_store.specs.{Earned.HasSearched, Earned.IsSearchInVain, Looked.AreOfOthers, Looked.HasLooked, Looked.IsKnown, Looked.IsOfOther}
+use Rattle.mc_store.specs.{Earned.HasSearched, Earned.HasSearchedForAny, Looked.AreOfOthers, Looked.HasLooked, Looked.IsKnown, Looked.IsOfOther}
 
 true_false : true ≡ false → ⊥
 true_false h = cc
@@ -279,18 +279,10 @@ full_vain config v v_new who moment xs there grows room full =
 pub tried_any : (config config_at : Config) (c : ClassView) (who : Who) (moment : ℕ) (s : Stripe) (xs xs_new ys : List Answer) (h_new : List ClassEvent) (there : Bool) → config_at ≡ config
     → ((r : Rounds) (before after : List ClassEvent) (answers : List Answer) (number : StripeNo) → IsRoom r before answers after false → AreHad number answers → IsTried r.config.stripes number r.who before after)
     → HasLooked config.stripes (walker_of c who moment) s xs xs_new c.history h_new → xs_new ≡ xs ++ ys
-    → IsRoom (rounds c who moment config_at) c.history ys h_new there → there ≡ false → IsSearchInVain config c s who moment h_new
+    → IsRoom (rounds c who moment config_at) c.history ys h_new there → there ≡ false → HasSearchedForAny config.stripes s who moment h_new
 tried_any config config_at c who moment s xs xs_new ys h_new there names law looked answered room vain =
     let number : StripeNo = record { 0 = s.site.stripe } in
     let had = subst (λ (l : List Answer). AreHad number l) (append_cancel_left xs looked.answers ys (sym looked.answers_are ∙ answered)) looked.had in
     let in_vain = subst (λ (b : Bool). IsRoom (rounds c who moment config_at) c.history ys h_new b) vain room in
-    record {
-      any = λ key of alive.
-          let tried = subst (λ (k : Config). IsTried k.stripes number who c.history h_new) names (law (rounds c who moment config_at) c.history h_new ys number in_vain had) in
-          tried_for config.stripes number who key c.history h_new looked.events tried looked.history_is (looked.others key of alive);
-      rounds_are = record {
-        answers = ys;
-        rounds_are = subst (λ (k : Config). IsRoom (rounds c who moment k) c.history ys h_new false) names in_vain;
-        had = had;
-      };
-    }
+    let tried = subst (λ (k : Config). IsTried k.stripes number who c.history h_new) names (law (rounds c who moment config_at) c.history h_new ys number in_vain had) in
+    λ key of alive. tried_for config.stripes number who key c.history h_new looked.events tried looked.history_is (looked.others key of alive)

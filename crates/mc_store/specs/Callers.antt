@@ -1,7 +1,7 @@
 -- Callers' histories: each event of a stripe was made by a call of its caller, whose history has that call (own).
 -- On the board they come after those of stripes and classes, and only a caller's pass adds to the caller's.
 -- A turn is the number of a call, from 0. A moment is a time in seconds. A place is the number of earlier events in a history.
-use Rattle.std.specs.Prelude.{◌≡◌, ◌≢◌, ◌<◌, ◌+◌, ◌-◌, ◌++◌, ◌⊎◌, ℕ, List, [], ◌∷◌, Option, Some, None, length, map, slice_get}
+use Rattle.std.specs.Prelude.{◌≡◌, ◌≢◌, ◌<◌, ◌+◌, ◌-◌, ◌++◌, ℕ, List, [], ◌∷◌, Option, Some, None, length, map, slice_get}
 use Rattle.mc_item.specs.declared.{call_event.CallEvent.CallEvent, command.Command.Command, event.Event.Event, event.Event.TheVariants.Call}
 use Rattle.mc_item.specs.declared.{event.Event.TheVariants.Class, event.Event.TheVariants.Stripe, item.ClassNo.ClassNo, item.Who.Who, stripe_event.Cause.Cause}
 use Rattle.mc_item.specs.declared.{stripe_event.Cause.TheVariants.Expired, stripe_event.Cause.TheVariants.Taken, stripe_event.StripeEvent.StripeEvent}
@@ -91,11 +91,6 @@ HasNoAnswer (Asked asked ∷ calls) = Unit {0}
 HasNoAnswer (Juggled worked ∷ calls) = Unit {0}
 HasNoAnswer (Crawled worked ∷ calls) = Unit {0}
 HasNoAnswer (Limits limits ∷ calls) = Unit {0}
-
--- the event is one of these
-abbrev pub IsCall : CallEvent → List CallEvent → Type 0
-IsCall call [] = ⊥
-IsCall call (e ∷ es) = (e ≡ call) ⊎ IsCall call es
 
 -- the event is the first of these
 abbrev pub IsNext : CallEvent → List CallEvent → Type 0

@@ -44,7 +44,7 @@ use Rattle.mc_store.specs.Hits.{IsAdvancedBy, IsAdvancedTill}
 use Rattle.mc_store.specs.{Made.HasNoneMadeBy, Reached.AreJudgedBy, Reached.IsSeenState, Passes.PassView, Passes.next_who, Sides.class_told, Sides.stripe_told}
 use Rattle.mc_store.specs.Waking.{MakesActive}
 use Rattle.mc_hits.specs.Views.{HandsView}
-use Rattle.mc_store.specs.declared.replied.Replied.{Replied}
+use Rattle.mc_pull.specs.declared.attempting.Replied.{Replied}
 
 -- a command was answered with this reply, and its caller's history gains one event, the place of the answer; a refusal that the
 -- answer names was earned, by what is seen of its class: a search by the same call came before it

@@ -8,10 +8,10 @@ use Rattle.mc_rule.specs.Places.{Stands}
 use Rattle.mc_evidence.specs.{Refusals.HasTried, Refusals.WasTried, Seen.classes_seen}
 use Rattle.mc_board.specs.Histories.{list_at}
 use Rattle.mc_board.specs.declared.rule.Sight.{Sight}
-use Rattle.mc_segment.specs.{ClassCalls.refused_event, ClassState.ClassView, ClassState.opened}
+use Rattle.mc_segment.specs.{ClassCalls.refused_event, ClassState.opened}
 use Rattle.mc_stripe.specs.StripeState.{Stripe, cache_now}
-use Rattle.mc_pull.specs.{Rounds.IsRoom, Rounds.rounds, Tried.AreHad, Tried.IsNoneNear}
-use Rattle.mc_pull.specs.declared.looking.Answer.{Answer}
+use Rattle.mc_pull.specs.{Rounds.rounds, Tried.IsNoneNear}
+use Rattle.mc_store.specs.Searches.{IsSearchedWith}
 
 -- a call for a key of a stripe has searched a class for a chunk: it evicted or moved an entry, or reclaimed one of another key;
 -- or no key of the stripe is among the five entries nearest COLD's tail or the five nearest HOT's
@@ -24,22 +24,11 @@ HasSearchedForAny stripes s who moment history =
     (key : List ℕ) → stripe_of key stripes ≡ record { 0 = s.site.stripe } → IsAlive ((cache_now s).items key) moment
     → HasSearched stripes (record { 0 = s.site.stripe }) who key history
 
--- a call went through all rounds of making room in a class, from one history to another, and no chunk is free in the end;
--- whenever it asked for its own stripe, the stripe answered and had the entry's item
-pub record IsInVain (config : Config) (number : StripeNo) (c : ClassView) (who : Who) (moment : ℕ) (before after : List ClassEvent) : Type 0 where
-  pub answers : List Answer
-  pub rounds_are : IsRoom (rounds c who moment config) before answers after false
-  pub had : AreHad number answers
-
--- a call searched a class through all rounds and found no chunk: it searched for each key of its stripe whose item isn't dead
-pub record IsSearchInVain (config : Config) (c : ClassView) (s : Stripe) (who : Who) (moment : ℕ) (history : List ClassEvent) : Type 0 where
-  pub any : HasSearchedForAny config.stripes s who moment history
-  pub rounds_are : IsInVain config (record { 0 = s.site.stripe }) c who moment c.history history
-
--- a call has gone through all rounds of a search for a chunk of a class, found none, and left this history
+-- a call has gone through all rounds of a search for a chunk of a class, found none, and left this history. By which states of
+-- stripes it judged isn't said here
 pub record HasGoneThrough (config : Config) (number : StripeNo) (class : ClassNo) (who : Who) (moment : ℕ) (history : List ClassEvent) : Type 0 where
   pub before : List ClassEvent
-  pub in_vain : IsInVain config number (opened config class) who moment before history
+  pub in_vain : IsSearchedWith (rounds (opened config class) who moment config) number (λ s. Unit {0}) before history false
 
 -- a call for a key of a stripe has found no chunk of a class: it has searched, and gone through all rounds
 abbrev pub HasGivenUp : Config → StripeNo → ClassNo → Who → ℕ → List ℕ → List ClassEvent → Type 0

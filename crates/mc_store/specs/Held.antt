@@ -28,7 +28,7 @@ use Rattle.mc_store.specs.{
   Serving.IsShortFor,
 }
 use Rattle.mc_store.specs.{Sides.ClassSide, Sides.StripeSide, Sides.stripe_sight, Trying.StillTries, Trying.noted_on}
-use Rattle.mc_store.specs.declared.replied.Replied.{Replied}
+use Rattle.mc_pull.specs.declared.attempting.Replied.{Replied}
 
 -- the number of a class
 abbrev pub class_number : ClassSide → ClassNo
@@ -101,8 +101,8 @@ module _ (config : Config) (s : Stripe) (own_new : StripeSide) (command : Comman
 -- the outcome of a try on the locked classes: the command was made, or nothing happened and it may want this
 abbrev pub IsTriedOn : Config → (own own_new : StripeSide) (caller caller_new : CallerView) → Command → Turn → (home other : Option ClassNo) → Type 0
     → Tried → Type 0
-IsTriedOn config own own_new caller caller_new command turn home other AnyFull (tried.Made reply woken) =
-    IsMadeIn config own own_new caller caller_new command turn (record { reply = reply; woken = woken })
+IsTriedOn config own own_new caller caller_new command turn home other AnyFull (tried.Made replied) =
+    IsMadeIn config own own_new caller caller_new command turn replied
 IsTriedOn config own own_new caller caller_new command turn home other AnyFull (tried.Wants want) =
     (own_new.stripe.history ≡ own.stripe.history) × StillTries config turn own own_new caller caller_new
     × MayWant config own.stripe own_new command turn.moment home other AnyFull want

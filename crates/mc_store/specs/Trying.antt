@@ -12,11 +12,11 @@ use Rattle.mc_store.specs.Accounts.{IsOfBurial, IsOfStretch, IsOfTry, StillCalls
 use Rattle.mc_store.specs.{Callers.answered_at, Passes.CallerView}
 use Rattle.mc_store.specs.Performing.{IsMadeOnStripe}
 use Rattle.mc_store.specs.Sides.{ClassSide, StripeSide, stripe_sight}
-use Rattle.mc_store.specs.declared.replied.Replied.{Replied}
+use Rattle.mc_pull.specs.declared.attempting.Replied.{Replied}
 
 -- whether a try made its command
 abbrev pub is_made_of : Tried → Bool
-is_made_of (tried.Made reply woken) = true
+is_made_of (tried.Made replied) = true
 is_made_of (tried.Wants want) = false
 
 -- whether a try made its command, if it may also have failed
@@ -63,8 +63,8 @@ Stay (c ∷ cs) (d ∷ ds) = (d.class ≡ with_room c.class d.class.room) × Sta
 -- the outcome of a try under locks: the command was made, or it wants something and nothing happened
 abbrev pub IsTriedUnder : Config → (own own_new : StripeSide) (caller caller_new : CallerView) → Command → Turn → Given → (cs ds : List ClassSide)
     → Tried → Type 0
-IsTriedUnder config own own_new caller caller_new command turn given cs ds (tried.Made reply woken) =
-    IsMadeBy config own own_new caller caller_new command turn given (record { reply = reply; woken = woken })
+IsTriedUnder config own own_new caller caller_new command turn given cs ds (tried.Made replied) =
+    IsMadeBy config own own_new caller caller_new command turn given replied
 IsTriedUnder config own own_new caller caller_new command turn given cs ds (tried.Wants want) =
     (own_new.stripe.history ≡ own.stripe.history) × StillTries config turn own own_new caller caller_new × Stay cs ds
     × IsWanting given (key_of command) (item_of own.stripe command) turn.moment (row_at own.stripe command turn.moment) want

@@ -4,7 +4,7 @@ use Rattle.mc_item.specs.{Command.key_of, Stripe.cache_after, Stripe.cache_of}
 use Rattle.mc_item.specs.declared.{answer.Site.Site, fault.Fault.Fault, item.Link.Link, reply.Reply.Reply, stripe_event.Did.Did}
 use Rattle.mc_item.specs.declared.stripe_event.StripeEvent.{StripeEvent}
 use Rattle.mc_item.specs.declared.stripe_event.StripeEvent.TheVariants as events
-use Rattle.mc_store.specs.declared.replied.Replied.{Replied}
+use Rattle.mc_pull.specs.declared.attempting.Replied.{Replied}
 
 -- a command's event, after the events `before` of its stripe, made the item of its key ACTIVE, which it wasn't; this is the item's link
 pub record MakesActive (site : Site) (before : List StripeEvent) (did : Did) (link : Link) : Type 0 where

@@ -15,13 +15,12 @@ use crate::caller::Caller;
 use crate::held::{answer_at_home, answer_at_item, try_home};
 use crate::locked::{LockedClass, LockedStripe};
 use crate::named::Named;
-use crate::replied::Replied;
 use crate::store::Store;
 use crate::task::Task;
 use crate::trying::try_alone;
 use crate::walking::bury_under;
 use mc_item::{ClassNo, Fault, Link};
-use mc_pull::Tried;
+use mc_pull::{Replied, Tried};
 use mc_stripe::{Classes, Want};
 use std::sync::{MutexGuard, Wait};
 
@@ -135,7 +134,7 @@ fn answer_want<N: Named>(
         Want::Burial(link) => {
             bury(task, rt, own, caller, link)?;
             match try_alone(task, own, caller)? {
-                Tried::Made { reply, woken } => Ok(Replied { reply, woken }),
+                Tried::Made(replied) => Ok(replied),
                 Tried::Wants(left) => match left {
                     Want::Classes(wanted) => { answer_with(task, rt, own, caller, wanted) }
                     Want::Burial(_) => unreachable!(),
@@ -162,7 +161,7 @@ pub(crate) fn answer<N: Named>(
 {
     own.law();
     match try_alone(task, own, caller)? {
-        Tried::Made { reply, woken } => Ok(Replied { reply, woken }),
+        Tried::Made(replied) => Ok(replied),
         Tried::Wants(want) => answer_want(task, rt, own, caller, want),
     }
 }
@@ -188,7 +187,7 @@ pub(crate) fn answer_for<'a, N: Named>(
     let mut guard = store.lock_class(rt, class);
     let home = &mut *guard;
     match try_home(task, own, home, &mut none, caller, None)? {
-        Tried::Made { reply, woken } => Ok(Replied { reply, woken }),
+        Tried::Made(replied) => Ok(replied),
         Tried::Wants(want) => match want {
             Want::Place(_) => Err(Fault::HistoryFull),
             Want::Room => {

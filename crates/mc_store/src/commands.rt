@@ -9,12 +9,12 @@ ghost use Rattle.mc_store.specs.Waking.{reply_in, woken_in};
 use crate::answering::{answer, answer_for};
 use crate::named::Named;
 use crate::pass::Pass;
-use crate::replied::Replied;
 use crate::store::Store;
 use crate::task::Task;
 use mc_item::{
     Asking, ClassNo, Command, Config, Fault, Link, Reply, Verb, class_of, cost, stripe_of,
 };
+use mc_pull::Replied;
 use mc_stripe::Turn;
 use std::alloc::Global;
 use std::sync::Wait;

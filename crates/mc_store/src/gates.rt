@@ -3,7 +3,7 @@ ghost use Rattle.std.specs.Prelude.{◌≡◌, ◌≢◌, ◌≤◌, ◌↔◌, 
 ghost use Rattle.std.specs.Sync.Mutex.{mutex_guard_value};
 ghost use Rattle.mc_pull.specs.{Growth.GainsFor, Rounds.rounds_by};
 ghost use Rattle.mc_pull.specs.Walker.{walker_by};
-ghost use Rattle.mc_store.specs.{Calls.IsJuggleCut, Calls.IsJuggledWith, Earned.IsSearchInVain, Reached.IsSeenState, Serving.MayFailSeen};
+ghost use Rattle.mc_store.specs.{Calls.IsJuggleCut, Calls.IsJuggledWith, Earned.HasSearchedForAny, Reached.IsSeenState, Serving.MayFailSeen};
 ghost use Rattle.mc_store.specs.Searches.{IsSearchBroken, IsSearchedWith};
 ghost use Rattle.mc_store.specs.Walking.{LeavesSearch, LeavesTokens, MayTry, StillWalks, StillWalksFrom};
 
@@ -242,7 +242,7 @@ impl<'a, 'b, N: Named> Holding<'a, 'b, N> {
             self.new.others.caller.now }
         ensures left { LeavesSearch N.board.table N.config (walker_by class.old context.entry) self.old.others.seen.now.sight class.old
             self.old.own.now.stripe self.new.others.owner.now self.new.others.seen.now class.new self.new.own.now.stripe }
-        ensures tried { IfOk result (λ found. found ≡ false → IsSearchInVain N.config class.old self.old.own.now.stripe context.entry.turn.who
+        ensures tried { IfOk result (λ found. found ≡ false → HasSearchedForAny N.config.stripes self.old.own.now.stripe context.entry.turn.who
             context.entry.turn.moment class.new.history) }
     {
         a_search_in_vain_has_tried();

@@ -15,12 +15,11 @@ use crate::caller::Caller;
 use crate::locked::{LockedClass, LockedStripe};
 use crate::named::Named;
 use crate::pairing::{meet, refuse};
-use crate::replied::Replied;
 use crate::task::Task;
 use crate::trying::{try_on_one, try_on_two};
 use crate::walking::make_room_under;
 use mc_item::Fault;
-use mc_pull::{Tried, offer_home, offer_other, ready};
+use mc_pull::{Replied, Tried, offer_home, offer_other, ready};
 use mc_stripe::{Given, Want};
 use std::sync::MutexGuard;
 
@@ -161,12 +160,12 @@ pub(crate) fn answer_at_home<N: Named>(
     own.law();
     search(task, own, home, caller)?;
     match try_home(task, own, home, other, caller, None)? {
-        Tried::Made { reply, woken } => Ok(Replied { reply, woken }),
+        Tried::Made(replied) => Ok(replied),
         Tried::Wants(want) => match want {
             Want::Room => {
                 let place = refuse(&store.board, own, home, task.turn.who, caller)?;
                 match try_home(task, own, home, other, caller, Some(place))? {
-                    Tried::Made { reply, woken } => Ok(Replied { reply, woken }),
+                    Tried::Made(replied) => Ok(replied),
                     Tried::Wants(_) => Err(Fault::HistoryFull),
                 }
             }
@@ -190,7 +189,7 @@ pub(crate) fn answer_at_item<N: Named>(
 {
     own.law();
     match try_other(task, own, other, caller)? {
-        Tried::Made { reply, woken } => Ok(Replied { reply, woken }),
+        Tried::Made(replied) => Ok(replied),
         Tried::Wants(_) => Err(Fault::HistoryFull),
     }
 }

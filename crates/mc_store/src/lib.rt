@@ -25,7 +25,6 @@ mod owned_stripe;
 mod pairing;
 mod pass;
 mod placed;
-mod replied;
 mod shelf;
 mod store;
 mod taking;

@@ -22,7 +22,7 @@ use mc_stripe::Given;
 fn is_made(tried: &Result<Tried, Fault>) -> bool
     ensures { result ≡ words.is_made tried.now }
 {
-    matches!(tried, Ok(Tried::Made { .. }))
+    matches!(tried, Ok(Tried::Made(_)))
 }
 
 // Tries a command once on its stripe alone.

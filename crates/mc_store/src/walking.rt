@@ -11,7 +11,7 @@ ghost use Rattle.mc_store.specs.{
   Callers.juggling_of,
   Calls.IsJuggleCut,
   Calls.IsJuggledWith,
-  Earned.IsSearchInVain,
+  Earned.HasSearchedForAny,
   Full.LacksPlaces,
   Reached.IsSeenState,
   Serving.IsShortFor,
@@ -54,7 +54,7 @@ fn make_room_with<N: Named>(
     ensures gains { classes.GainsFor true class.old class.new }
     ensures left { LeavesSearch N.board.table N.config (walker_of class.old task.entry.turn.who task.entry.turn.moment) seen.old.sight class.old
         own.old.stripe owner.new seen.new class.new own.new.stripe }
-    ensures tried { IfOk result (λ found. found ≡ false → IsSearchInVain N.config class.old own.old.stripe task.entry.turn.who task.entry.turn.moment
+    ensures tried { IfOk result (λ found. found ≡ false → HasSearchedForAny N.config.stripes own.old.stripe task.entry.turn.who task.entry.turn.moment
         class.new.history) }
     ensures still { (length owner.old.history ≤ length owner.new.history) × StillWalksFrom N.config class.old.number (length owner.old.history)
         task.entry.turn.who.turn seen.old.sight seen.new.sight class.old.history class.new.history caller.old caller.new }
@@ -99,7 +99,7 @@ pub(crate) fn make_room_under<N: Named>(
     ensures leaves { StripeGrows (walker_of class.old.class task.entry.turn.who task.entry.turn.moment) own.old.stripe own.new.stripe
         × StillSearches N.config class.old.class.number (stretch_of class.old.class class.new.class) task.entry.turn own.old own.new caller.old
         caller.new }
-    ensures tried { IfOk result (λ found. found ≡ false → IsSearchInVain N.config class.old.class own.old.stripe task.entry.turn.who task.entry.turn.moment
+    ensures tried { IfOk result (λ found. found ≡ false → HasSearchedForAny N.config.stripes own.old.stripe task.entry.turn.who task.entry.turn.moment
         class.new.class.history) }
     ensures begun { HasBegunSearch N.config own.new.sight task.entry.turn.who task.entry.turn.moment }
     ensures seen { HasSeenOf N.config own.new.sight class.old.class.number class.new.class.history }

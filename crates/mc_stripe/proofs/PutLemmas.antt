@@ -1,17 +1,23 @@
 -- Lemmas for the tries that need a chunk.
 use Rattle.std.proofs.Common.{ℕ, ◌≡◌, ◌∙◌, true, List, refl, sym, ap, rules, subst}
 use Rattle.std.specs.Prelude.{Option, Some, None}
-use Rattle.mc_item.specs.{Answer.Row, Answer.store_row, Item.link_of_item, Measure.cost_of, Stripe.Fits, Stripe.IsAlive}
+use Rattle.mc_item.specs.{Answer.Row, Answer.plain, Answer.store_row, Item.link_of_item, Measure.cost_of, Stripe.Fits, Stripe.IsAlive}
 use Rattle.mc_item.specs.declared.{answer.Need.Need, command.Verb.Verb, item.ClassNo.ClassNo, item.Expiry.Expiry, item.Item.Item, item.Link.Link}
 use Rattle.mc_item.specs.declared.{stripe_event.StripeEvent.StripeEvent}
+use Rattle.mc_item.specs.declared.answer.Change.TheVariants as changes
 use Rattle.mc_item.specs.declared.answer.Need.TheVariants as needs
 use Rattle.mc_item.specs.declared.command.Verb.TheVariants.{Set, Add, Replace, Cas, Append, Prepend}
 use Rattle.mc_item.specs.declared.reply.Room as rooms
 use Rattle.mc_stripe.specs.{Plan.fate_of, Trying.MakesRow, Trying.Puts}
-use Rattle.mc_stripe.specs.Putting.{IsDecided, KnowsItem, answer_of_room, cas_in, decline_of, found_of, item_left, link_in, made_of, row_by, storing_row}
+use Rattle.mc_stripe.specs.Putting.{IsDecided, KnowsItem, answer_of_room, cas_in, decline_of, found_of, item_left, link_in, made_of, reply_of, storing_row}
 use Rattle.mc_stripe.specs.Wanting.{Covers, HasPlacesFor, IsCrowded, IsLacking, IsTaken, IsWanting, LacksPlace, Uses, class_beside}
 use Rattle.mc_stripe.specs.declared.{fate.Fate.Fate, putting.Found.Found, putting.Put.Put, putting.PutAnswer.PutAnswer, wanting.Given.Given, wanting.Want.Want}
 use Rattle.mc_stripe.specs.declared.wanting.Want.TheVariants as wants
+
+-- the row of a storage command, by the answer that declines it, if any
+abbrev row_by : Option PutAnswer → ClassNo → Verb → (Link → Item) → Row
+row_by None class verb version = storing_row class verb version
+row_by (Some answer) class verb version = plain needs.Nothing (reply_of answer) changes.Stays
 
 -- the row of a storage command is that of what declines it
 declined_by : (class : ClassNo) (verb : Verb) (item : Option Item) (version : Link → Item)

@@ -1,9 +1,7 @@
 -- How a storage command is decided whose item fits a class (own).
 use Rattle.std.specs.Prelude.{ℕ, ◌≡◌, ◌==◌, Bool, true, false, List, if◌then◌else◌, Option, Some, None}
-use Rattle.mc_item.specs.{Answer.Row, Answer.let_go, Answer.plain, Cache.changed, Cache.versions_of, Measure.cost_of, Stripe.IsAlive}
+use Rattle.mc_item.specs.{Answer.Row, Answer.let_go, Cache.changed, Cache.versions_of, Measure.cost_of, Stripe.IsAlive}
 use Rattle.mc_item.specs.Answer as answers
-use Rattle.mc_item.specs.declared.answer.Change.TheVariants as changes
-use Rattle.mc_item.specs.declared.answer.Need.TheVariants as needs
 use Rattle.mc_item.specs.declared.{command.Verb.Verb, item.ClassNo.ClassNo, item.Expiry.Expiry, item.Item.Item, item.Link.Link, reply.Reply.Reply}
 use Rattle.mc_item.specs.declared.{reply.Room.Room}
 use Rattle.mc_item.specs.declared.command.Verb.TheVariants.{Set, Add, Replace, Cas, Append, Prepend}
@@ -25,10 +23,6 @@ reply_of answered.NoRoom = replies.NoRoom
 -- the row of a storage command that nothing declines: it needs a chunk of this class
 abbrev pub storing_row : ClassNo → Verb → (Link → Item) → Row
 storing_row class verb version = answers.fresh class replies.Stored version (answers.answer replies.NoRoom (let_go verb))
-
--- the row of a storage command that is declined with this answer
-abbrev pub declined_row : PutAnswer → Row
-declined_row put = plain needs.Nothing (reply_of put) changes.Stays
 
 -- what a decision knows of an item: its link and its cas number
 abbrev pub found_of : Option Item → Option Found
@@ -58,11 +52,6 @@ decline_of Prepend None = Some answered.NotStored
 decline_of Prepend (Some cas) = None
 decline_of (Cas unique) None = Some answered.NotFound
 decline_of (Cas unique) (Some cas) = if cas == unique then None else Some answered.Exists
-
--- the row of a storage command, by the answer that declines it, if any
-abbrev pub row_by : Option PutAnswer → ClassNo → Verb → (Link → Item) → Row
-row_by None class verb version = storing_row class verb version
-row_by (Some answer) class verb version = declined_row answer
 
 -- the answer of a storage command that nothing declines: Stored if its room is a link, else NoRoom
 abbrev pub answer_of_room : Room → PutAnswer

@@ -52,7 +52,6 @@ impl Calls for Noted {
       notes = λ calls begun. length calls ≡ m.made;
       has_class = λ class. Unit {0};
       may_call = Unit {0};
-      is_full = Unit {0};
     } };
 
     fn command(&mut self, _rt: &impl Wait, command: Command, _moment: u64) -> Result<Reply, Fault> {
@@ -67,15 +66,20 @@ impl Calls for Noted {
     }
 
     fn juggle(&mut self, _rt: &impl Wait, class: ClassNo, moment: u64) -> Result<Moves, Fault> {
-        let number = self.note(class, moment)?;
-        Ok(Moves {
-            reclaimed: number,
-            moved: 10 * number,
-        })
+        match self.note(class, moment) {
+            Ok(number) => Ok(Moves {
+                reclaimed: number,
+                moved: 10 * number,
+            }),
+            Err(fault) => Err(fault),
+        }
     }
 
     fn crawl(&mut self, _rt: &impl Wait, class: ClassNo, moment: u64) -> Result<Histogram, Fault> {
-        let number = self.note(class, moment)?;
+        let number = match self.note(class, moment) {
+            Ok(number) => number,
+            Err(fault) => return Err(fault),
+        };
         self.crawled = self.crawled.wrapping_add(1);
         let mut histogram = Histogram::new();
         histogram.minutes[number as usize % 2] = number;
@@ -89,8 +93,10 @@ impl Calls for Noted {
     }
 
     fn limit(&mut self, _rt: &impl Wait, class: ClassNo, chunks: u64) -> Result<(), Fault> {
-        self.note(class, chunks)?;
-        Ok(())
+        match self.note(class, chunks) {
+            Ok(_) => Ok(()),
+            Err(fault) => Err(fault),
+        }
     }
 }
 

@@ -169,7 +169,7 @@ fn text_of_made(alloc: Global, reply: Reply, woken: Option<Link>) -> Result<Stri
 
 fn text_of_tried(alloc: Global, tried: Result<Tried, Fault>) -> Result<String, Fail> {
     match tried {
-        Ok(Tried::Made { reply, woken }) => text_of_made(alloc, reply, woken),
+        Ok(Tried::Made(made)) => text_of_made(alloc, made.reply, made.woken),
         Ok(Tried::Wants(want)) => Ok(format!(in alloc; "{want:?}")?),
         Err(fault) => Ok(format!(in alloc; "{fault:?}")?),
     }

@@ -69,11 +69,13 @@ fn a_store_opens_is_looked_at_and_closes(rt: HostRuntime) {
 }
 
 // A get of an absent key is one event of its stripe. The caller who counts has made no call.
-static OF_ANOTHER: [Row; 6] = [
+static OF_ANOTHER: [Row; 8] = [
     (1, 1000, OfStripe(0), "0"),
     (0, 1000, On(b'a', Get), "Miss"),
     (1, 1000, OfStripe(0), "1"),
     (1, 1000, OfStripe(1), "0"),
+    (1, 1000, Visit(0), "1"),
+    (1, 1000, Visit(1), "0"),
     (1, 1000, Turn, "1 0"),
     (0, 1000, Turn, "0 1"),
 ];

@@ -91,7 +91,6 @@ impl Calls for Misses {
       notes = λ calls begun. length calls ≡ m.made;
       has_class = λ class. Unit {0};
       may_call = Unit {0};
-      is_full = MOST ≤ m.made;
     } };
 
     fn command(&mut self, _rt: &impl Wait, command: Command, _moment: u64) -> Result<Reply, Fault> {

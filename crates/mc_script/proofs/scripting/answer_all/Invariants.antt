@@ -1,5 +1,6 @@
 use Rattle.std.proofs.Common.{◌≡◌, List, ℕ}
-use Rattle.mc_script.specs.{Calls.IsSameCaller, Calls.MayAnswer, Progress.AsksNothing, Progress.HasAnswered, Progress.Went, Run.NoneEnds, Script.Answered}
+use Rattle.mc_script.specs.{Calls.IsSameCaller, Calls.MayAnswer, Progress.AsksNothing, Progress.HasAnswered, Run.NoneEnds, Script.Answered}
+use Rattle.mc_script.proofs.ProgressLemmas.{Went}
 use Rattle.mc_script.proofs.scripting.answer_all.Given as goal
 
 -- the requests so far were answered, behind those before

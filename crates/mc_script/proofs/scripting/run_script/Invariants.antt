@@ -1,5 +1,6 @@
 use Rattle.std.proofs.Common.{◌≡◌, List, ℕ, []}
-use Rattle.mc_script.specs.{Calls.IsSameCaller, Calls.MayAnswer, Progress.IsOnWay}
+use Rattle.mc_script.specs.{Calls.IsSameCaller, Calls.MayAnswer}
+use Rattle.mc_script.proofs.ScriptRunLemmas.{IsOnWay}
 use Rattle.mc_script.proofs.scripting.run_script.Given as goal
 
 -- between two pieces all texts are out

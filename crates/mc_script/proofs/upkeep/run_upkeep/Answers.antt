@@ -15,12 +15,12 @@ loop-i-init g c = record {
 pub returns-in-Err-NoMemory-clause-leaves : goal.returns-in-Err-NoMemory-clause-leaves
 returns-in-Err-NoMemory-clause-leaves g c =
     kept_fails c.loop-i.invariant.kept (slice_index_or c.args.moments.now c.loop-i.i 0) (drop (suc c.loop-i.i) c.args.moments.now) c.loop-i.invariant.same
-    c.in-Err-NoMemory.ensures.err c.in-Err-NoMemory.ensures.caller.same (cut_at c.args.moments.now c.loop-i.i 0 (omega arith))
+    (rw c.in-Err-NoMemory.field-0-is at c.in-Err-NoMemory.ensures.err) c.in-Err-NoMemory.ensures.caller.same (cut_at c.args.moments.now c.loop-i.i 0 (omega arith))
 
 pub returns-in-Err-HistoryFull-clause-leaves : goal.returns-in-Err-HistoryFull-clause-leaves
 returns-in-Err-HistoryFull-clause-leaves g c =
     kept_fails c.loop-i.invariant.kept (slice_index_or c.args.moments.now c.loop-i.i 0) (drop (suc c.loop-i.i) c.args.moments.now) c.loop-i.invariant.same
-    c.in-Err-HistoryFull.ensures.err c.in-Err-HistoryFull.ensures.caller.same (cut_at c.args.moments.now c.loop-i.i 0 (omega arith))
+    (rw c.in-Err-HistoryFull.field-0-is at c.in-Err-HistoryFull.ensures.err) c.in-Err-HistoryFull.ensures.caller.same (cut_at c.args.moments.now c.loop-i.i 0 (omega arith))
 
 pub loop-i-preserved : goal.loop-i-preserved
 loop-i-preserved g c =

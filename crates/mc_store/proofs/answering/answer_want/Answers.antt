@@ -7,7 +7,7 @@ use Rattle.mc_store.proofs.{CallerLemmas.asked_called, CallerLemmas.begun_as_see
 use Rattle.mc_store.proofs.{HeldTryLemmas.some_none, ShortHistoryLemmas.stripe_made, UnderLockLemmas.searched_itself, UnderLockLemmas.site_itself}
 use Rattle.mc_store.proofs.CommandEndLemmas.{buried_now, ends_broken, ends_buried, ends_early, ends_made, ends_same, no_search}
 use Rattle.mc_store.proofs.EnteredLemmas.{heard_buried, makes_buried, makes_none, no_stretch, tries_asked, tries_heard}
-use Rattle.mc_store.specs.declared.replied.Replied.{Replied}
+use Rattle.mc_pull.specs.declared.attempting.Replied.{Replied}
 use Rattle.mc_store.proofs.answering.answer_want.Given.{Over}
 use Rattle.mc_store.proofs.answering.answer_want.Goals as goal
 use Rattle.mc_store.proofs.answering.answer_want.Goals.{After-tell_stripe, After-try_alone}
@@ -87,15 +87,15 @@ returns-in_err-bury-in-Burial g c =
     (heard_buried g.N.Named.config c.args.task.turn own c.tell_stripe.new.stripe end link c.tell_stripe.ensures.stripe c.tell_stripe.ensures.grows c.tell_stripe.ensures.same c.bury.ensures.same.1))
     (λ is. inr (inl (record { link = link; dead = dead; lacks = c.bury.ensures.full (c.in_err-bury-in-Burial.was ∙ ap Err is) })))
 
-pub returns-in_err-reply-in-Burial : goal.returns-in_err-reply-in-Burial
-returns-in_err-reply-in-Burial g c =
+pub returns-in_err-replied-in-Burial : goal.returns-in_err-replied-in-Burial
+returns-in_err-replied-in-Burial g c =
     let end = c.try_alone.new.own in
     let caller = c.try_alone.new.caller in
-    let r = c.from_residual-in_err-reply-in-Burial.result in
-    ends g (goal.at.returns-in_err-reply-in-Burial g c).After-try_alone end caller r
-    (ends_early g.N.Named.config c.args.task.command.now c.args.task.turn c.bury.new.own end c.bury.new.caller caller r c.in_err-reply-in-Burial.field-0.0
-    c.from_residual-in_err-reply-in-Burial.ensures.1 c.try_alone.ensures.site c.in_err-reply-in-Burial.ensures.err c.in_err-reply-in-Burial.ensures.unnoted
-    (λ is. inl (c.try_alone.ensures.full (c.in_err-reply-in-Burial.was ∙ ap Err is))))
+    let r = c.from_residual-in_err-replied-in-Burial.result in
+    ends g (goal.at.returns-in_err-replied-in-Burial g c).After-try_alone end caller r
+    (ends_early g.N.Named.config c.args.task.command.now c.args.task.turn c.bury.new.own end c.bury.new.caller caller r c.in_err-replied-in-Burial.field-0.0
+    c.from_residual-in_err-replied-in-Burial.ensures.1 c.try_alone.ensures.site c.in_err-replied-in-Burial.ensures.err c.in_err-replied-in-Burial.ensures.unnoted
+    (λ is. inl (c.try_alone.ensures.full (c.in_err-replied-in-Burial.was ∙ ap Err is))))
 
 pub answer_with-requires-in-Classes-left-clause-begun : goal.answer_with-requires-in-Classes-left-clause-begun
 answer_with-requires-in-Classes-left-clause-begun g c =
@@ -111,13 +111,13 @@ answer_with-requires-in-Classes-left-clause-called g c =
     let behind = tries_asked g.N.Named.config c.args.task.turn c.args.task.command.now c.bury.ensures.same.1 (asked g at.After-tell_stripe) in
     record {
       own = c.requires.called.own ∙ ap (λ (t : Site). record { 0 = t.stripe }) (sym (c.try_alone.ensures.site.site ∙ (site g at.After-try_alone).site));
-      asked = tries_asked g.N.Named.config c.args.task.turn c.args.task.command.now (rw c.in-Wants.is at c.in_ok-reply-in-Burial.ensures.tried).1 behind;
+      asked = tries_asked g.N.Named.config c.args.task.turn c.args.task.command.now (rw c.in-Wants.is at c.in_ok-replied-in-Burial.ensures.tried).1 behind;
       early = c.requires.called.early;
     }
 
 pub unreachable-requires : goal.unreachable-requires
 unreachable-requires g c =
-    some_none c.in-Burial-left.field-0 _ (rw c.in-Burial-left.is at (rw c.in-Wants.is at c.in_ok-reply-in-Burial.ensures.tried).3)
+    some_none c.in-Burial-left.field-0 _ (rw c.in-Burial-left.is at (rw c.in-Wants.is at c.in_ok-replied-in-Burial.ensures.tried).3)
     (not_dead (item_of c.bury.new.own.stripe c.args.task.command.now) c.args.task.turn.moment (alive g (goal.at.unreachable-requires g c).After-try_alone))
 
 pub returns-in-Made : goal.returns-in-Made
@@ -129,15 +129,14 @@ returns-in-Made g c =
     let own = c.bury.new.own in
     let end = c.try_alone.new.own in
     let k = c.bury.new.caller in
-    let reply : Replied = record { reply = c.in-Made.reply; woken = c.in-Made.woken } in
-    ends g at end c.try_alone.new.caller (Ok reply)
-    (ends_made config command turn own own (alive g at) (searched_itself config turn.who command turn.moment own.stripe own.stripe refl) (site_itself own.stripe) no_stretch end k k c.try_alone.new.caller reply
-    (stripe_made config c.args.own.now.stripe own.stripe (site g at) c.law.ensures.made_with) c.try_alone.ensures.site (makes_none config command turn no_stretch own k)
-    (no_search config command turn own end) (made_alone config own end k c.try_alone.new.caller command turn reply (rw c.in-Made.is at c.in_ok-reply-in-Burial.ensures.tried)))
+    ends g at end c.try_alone.new.caller (Ok c.in-Made.replied)
+    (ends_made config command turn own own (alive g at) (searched_itself config turn.who command turn.moment own.stripe own.stripe refl) (site_itself own.stripe) no_stretch end k k
+    c.try_alone.new.caller c.in-Made.replied (stripe_made config c.args.own.now.stripe own.stripe (site g at) c.law.ensures.made_with) c.try_alone.ensures.site (makes_none config command turn no_stretch own k)
+    (no_search config command turn own end) (made_alone config own end k c.try_alone.new.caller command turn c.in-Made.replied (rw c.in-Made.is at c.in_ok-replied-in-Burial.ensures.tried)))
 
 pub returns-in-Classes-left : goal.returns-in-Classes-left
 returns-in-Classes-left g c =
-    let tried = rw c.in-Wants.is at c.in_ok-reply-in-Burial.ensures.tried in
+    let tried = rw c.in-Wants.is at c.in_ok-replied-in-Burial.ensures.tried in
     let with = c.answer_with-in-Classes-left in
     ends g (goal.at.returns-in-Classes-left g c).After-try_alone with.new.own with.new.caller with.result
     (ends_same g.N.Named.config c.args.task.command.now c.args.task.turn c.bury.new.own c.try_alone.new.own c.try_alone.ensures.site c.bury.new.caller c.try_alone.new.caller tried.1 tried.0

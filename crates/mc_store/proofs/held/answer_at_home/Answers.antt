@@ -15,7 +15,7 @@ use Rattle.mc_store.proofs.{EnteredLemmas.StillMakes, EnteredLemmas.makes_search
 use Rattle.mc_store.proofs.{FullLemmas.full_search, FullLemmas.seen_full_grows, HeldTryLemmas.earned_now, HeldTryLemmas.no_burial, HeldTryLemmas.refuse_short, HeldTryLemmas.some_none, HeldTryLemmas.wants_place}
 use Rattle.mc_store.proofs.{LockKeepsLemmas.grows_trans, NeededClassLemmas.begun_search, NeededClassLemmas.suffice_behind, ShortHistoryLemmas.short_grows, UnderLockLemmas.IsSearched, UnderLockLemmas.site_both}
 use Rattle.mc_item.specs.declared.answer.Need.TheVariants as needs
-use Rattle.mc_store.specs.declared.replied.Replied.{Replied}
+use Rattle.mc_pull.specs.declared.attempting.Replied.{Replied}
 use Rattle.mc_store.proofs.held.answer_at_home.Given.{Over}
 use Rattle.mc_store.proofs.held.answer_at_home.Goals as goal
 use Rattle.mc_store.proofs.held.answer_at_home.Goals.{After-search, After-refuse}
@@ -71,10 +71,10 @@ module _ (g : Over) (c : After-search g) where
 -- behind the step of the class: the first try made nothing, since the class was full, and the stripe is as the search left it
 module _ (g : Over) (c : After-refuse g) where
   tries : StillTries g.N.Named.config c.args.task.turn c.search.new.own c.try_home.new.own c.search.new.caller c.try_home.new.caller
-  tries = (rw c.in-Wants.is at c.in_ok-reply.ensures.tried).1
+  tries = (rw c.in-Wants.is at c.in_ok-replied.ensures.tried).1
 
   full : IsStillFull g.N.Named.config c.try_home.new.own.sight None c.search.new.home.class c.try_home.new.home.class
-  full = (rw c.in-Room.is at (rw c.in-Wants.is at c.in_ok-reply.ensures.tried).2).0
+  full = (rw c.in-Room.is at (rw c.in-Wants.is at c.in_ok-replied.ensures.tried).2).0
 
   number : c.try_home.new.home.class.number ≡ c.args.home.now.class.number
   number = full.number_is ∙ c.search.ensures.same.0
@@ -86,7 +86,7 @@ module _ (g : Over) (c : After-refuse g) where
   site = subst (λ (t : Stripe). KeepsSite c.search.new.own.stripe t) (sym (ap (λ (x : StripeSide). x.stripe) c.refuse.ensures.own.0)) c.try_home.ensures.site
 
   same : c.refuse.new.own.stripe.history ≡ c.search.new.own.stripe.history
-  same = ap (λ (x : StripeSide). x.stripe.history) c.refuse.ensures.own.0 ∙ (rw c.in-Wants.is at c.in_ok-reply.ensures.tried).0
+  same = ap (λ (x : StripeSide). x.stripe.history) c.refuse.ensures.own.0 ∙ (rw c.in-Wants.is at c.in_ok-replied.ensures.tried).0
 
   -- what was entered in the account up to here, if the class's history didn't shrink
   entered : length c.try_home.new.home.class.history ≤ length c.refuse.new.lent.class.history
@@ -148,17 +148,17 @@ module _ (g : Over) (c : After-refuse g) where
 pub unreachable-requires : goal.unreachable-requires
 unreachable-requires g c =
     no_burial c.search.new.own.stripe c.args.task.command.now c.args.task.turn.moment (Some c.search.new.home.class.number) (class_held c.args.other.now)
-    (suffices g (goal.at.unreachable-requires g c).After-search) c.in-Burial.field-0 (rw c.in-Burial.is at (rw c.in-Wants.is at c.in_ok-reply.ensures.tried).2)
+    (suffices g (goal.at.unreachable-requires g c).After-search) c.in-Burial.field-0 (rw c.in-Burial.is at (rw c.in-Wants.is at c.in_ok-replied.ensures.tried).2)
 
 pub unreachable-requires-in-Classes : goal.unreachable-requires-in-Classes
 unreachable-requires-in-Classes g c =
-    absurd ((rw c.in-Classes.is at (rw c.in-Wants.is at c.in_ok-reply.ensures.tried).2).1 (suffices g (goal.at.unreachable-requires-in-Classes g c).After-search))
+    absurd ((rw c.in-Classes.is at (rw c.in-Wants.is at c.in_ok-replied.ensures.tried).2).1 (suffices g (goal.at.unreachable-requires-in-Classes g c).After-search))
 
-pub returns-in_err-reply : goal.returns-in_err-reply
-returns-in_err-reply g c =
-    ends_tried g (goal.at.returns-in_err-reply g c).After-search c.in_ok-search.ensures.tried.1 c.try_home.new.own c.try_home.ensures.sees c.try_home.new.caller
-    c.from_residual-in_err-reply.result c.in_err-reply.field-0.0 c.from_residual-in_err-reply.ensures.1 c.try_home.ensures.site c.in_err-reply.ensures.err
-    (λ is. inl (c.try_home.ensures.full (c.in_err-reply.was ∙ ap Err is)))
+pub returns-in_err-replied : goal.returns-in_err-replied
+returns-in_err-replied g c =
+    ends_tried g (goal.at.returns-in_err-replied g c).After-search c.in_ok-search.ensures.tried.1 c.try_home.new.own c.try_home.ensures.sees c.try_home.new.caller
+    c.from_residual-in_err-replied.result c.in_err-replied.field-0.0 c.from_residual-in_err-replied.ensures.1 c.try_home.ensures.site c.in_err-replied.ensures.err
+    (λ is. inl (c.try_home.ensures.full (c.in_err-replied.was ∙ ap Err is)))
 
 pub returns-in_err-search : goal.returns-in_err-search
 returns-in_err-search g c =
@@ -173,9 +173,9 @@ pub returns-in-Made : goal.returns-in-Made
 returns-in-Made g c =
     let at = (goal.at.returns-in-Made g c).After-search in
     ends_made g.N.Named.config c.args.task.command.now c.args.task.turn c.args.own.now c.search.new.own c.requires.wants.suffice.alive (searched g at) c.search.ensures.site
-    (stretch_of c.args.home.now.class c.search.new.home.class) c.try_home.new.own c.args.caller.now c.search.new.caller c.try_home.new.caller (record { reply = c.in-Made.reply; woken = c.in-Made.woken })
+    (stretch_of c.args.home.now.class c.search.new.home.class) c.try_home.new.own c.args.caller.now c.search.new.caller c.try_home.new.caller c.in-Made.replied
     c.law.ensures.made_with c.try_home.ensures.site (found g at) (sought g at c.in_ok-search.ensures.tried.1 c.try_home.new.own c.try_home.ensures.sees)
-    (rw c.in-Made.is at c.in_ok-reply.ensures.tried)
+    (rw c.in-Made.is at c.in_ok-replied.ensures.tried)
 
 pub search-requires : goal.search-requires
 search-requires g c = record {
@@ -198,7 +198,7 @@ try_home-requires-clause-called g c =
 pub refuse-requires-clause-begun : goal.refuse-requires-clause-begun
 refuse-requires-clause-begun g c =
     let turn = c.args.task.turn in
-    let tried = rw c.in-Wants.is at c.in_ok-reply.ensures.tried in (
+    let tried = rw c.in-Wants.is at c.in_ok-replied.ensures.tried in (
       (turn.moment, search_sees g.N.Named.config c.search.new.own.sight c.try_home.new.own.sight turn.who turn.moment c.try_home.ensures.sees c.search.ensures.begun),
       c.requires.called.asked.number ∙ sym (tried.1.number_is ∙ c.search.ensures.same.1.number_is),
     )
@@ -259,15 +259,15 @@ returns-in-Made-2 g c =
     let end = c.try_home-in-Room.new.own in
     ends_made g.N.Named.config c.args.task.command.now c.args.task.turn c.args.own.now c.refuse.new.own c.requires.wants.suffice.alive (searched_here g at) (site_here g at)
     (stretch_of c.args.home.now.class c.refuse.new.lent.class) end c.args.caller.now c.refuse.new.caller c.try_home-in-Room.new.caller
-    (record { reply = c.in-Made-2.reply; woken = c.in-Made-2.woken }) c.law.ensures.made_with c.try_home-in-Room.ensures.site
+    c.in-Made-2.replied c.law.ensures.made_with c.try_home-in-Room.ensures.site
     (entered g at (made_longer c.try_home.new.home.class c.refuse.new.lent.class (refused_event c.args.task.turn.who) made)) (sought_here g at made end c.try_home-in-Room.ensures.sees)
-    (rw c.in-Made-2.is at c.in_ok-reply-in-Room.ensures.tried)
+    (rw c.in-Made-2.is at c.in_ok-replied-in-Room.ensures.tried)
 
-pub returns-in_err-reply-in-Room : goal.returns-in_err-reply-in-Room
-returns-in_err-reply-in-Room g c =
-    ends_again g (goal.at.returns-in_err-reply-in-Room g c).After-refuse c.in_ok-place-in-Room.ensures.refused.1 c.try_home-in-Room.new.own c.try_home-in-Room.ensures.sees
-    c.try_home-in-Room.new.caller c.from_residual-in_err-reply-in-Room.result c.in_err-reply-in-Room.field-0.0 c.from_residual-in_err-reply-in-Room.ensures.1 c.try_home-in-Room.ensures.site
-    c.in_err-reply-in-Room.ensures.err (λ is. inl (c.try_home-in-Room.ensures.full (c.in_err-reply-in-Room.was ∙ ap Err is)))
+pub returns-in_err-replied-in-Room : goal.returns-in_err-replied-in-Room
+returns-in_err-replied-in-Room g c =
+    ends_again g (goal.at.returns-in_err-replied-in-Room g c).After-refuse c.in_ok-place-in-Room.ensures.refused.1 c.try_home-in-Room.new.own c.try_home-in-Room.ensures.sees
+    c.try_home-in-Room.new.caller c.from_residual-in_err-replied-in-Room.result c.in_err-replied-in-Room.field-0.0 c.from_residual-in_err-replied-in-Room.ensures.1 c.try_home-in-Room.ensures.site
+    c.in_err-replied-in-Room.ensures.err (λ is. inl (c.try_home-in-Room.ensures.full (c.in_err-replied-in-Room.was ∙ ap Err is)))
 
 pub returns-in-Place : goal.returns-in-Place
 returns-in-Place g c =
@@ -276,7 +276,7 @@ returns-in-Place g c =
     let command = c.args.task.command.now in
     let moment = c.args.task.turn.moment in
     let end = c.try_home.new.own in
-    let tried = rw c.in-Wants.is at c.in_ok-reply.ensures.tried in
+    let tried = rw c.in-Wants.is at c.in_ok-replied.ensures.tried in
     let entries = rw c.in-Place.is at tried.2 in
     ends_tried g at c.in_ok-search.ensures.tried.1 end c.try_home.ensures.sees c.try_home.new.caller (Err HistoryFull) HistoryFull refl c.try_home.ensures.site (tried.0, tried.1)
     (λ is. ⊎_elim (λ idle. inr (inr (inl (subst (λ (x : StripeSide). LacksEntries config x.stripe end.sight command moment) idle entries))))
@@ -296,8 +296,8 @@ returns-in-Wants-2 g c =
     let sees = c.try_home-in-Room.ensures.sees in
     let home = c.search.new.home.class.number in
     let held = class_held c.try_home.new.other in
-    let tried = rw c.in-Wants.is at c.in_ok-reply.ensures.tried in
-    let again = rw c.in-Wants-2.is at c.in_ok-reply-in-Room.ensures.tried in
+    let tried = rw c.in-Wants.is at c.in_ok-replied.ensures.tried in
+    let again = rw c.in-Wants-2.is at c.in_ok-replied-in-Room.ensures.tried in
     let suffice = subst (λ (n : ClassNo). Suffice (Some n) held last.stripe command moment) (sym (ap (λ (v : ClassView). v.number) c.in_ok-place-in-Room.ensures.refused.1 ∙ (full g at).number_is))
     (subst (λ (o : Option ClassNo). Suffice (Some home) o last.stripe command moment) (sym (rw c.in-Room.is at tried.2).1)
     (suffice_same c.search.new.own.stripe last.stripe (site g at) (same g at) command moment (Some home) (class_held c.args.other.now) (suffices g behind))) in

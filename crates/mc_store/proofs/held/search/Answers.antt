@@ -22,17 +22,16 @@ returns-clause-tried g c =
     let new = c.make_room_under.new.class.class in
     let who = c.args.task.turn.who in
     let moment = c.args.task.turn.moment in
-    let made_with = c.side.ensures.kept.held.made_with in (
+    let made_with = c.side.ensures.kept.held.made_with in
+    let by = searcher_at config c.args.own.now.stripe c.args.task.turn in
+    let States = IsSeenState config.stripes (stripe_sight c.args.own.now) c.make_room_under.new.own.sight in (
       λ full key own alive.
-          let vain = full_vain config was new who moment found.ensures.room.answers found.field-0 c.make_room_under.ensures.class found.ensures.room.room full in
-          let in_vain = found.ensures.tried vain in (
-            in_vain.any key own alive,
-            gone_through config (record { 0 = c.args.own.now.stripe.site.stripe }) was new.number who moment new.history made_with
-                (sym (ap (λ (v : ClassView). v.number) c.make_room_under.ensures.class.same)) in_vain.rounds_are,
+          let vain = full_vain config was new who moment found.ensures.room.answers found.field-0 c.make_room_under.ensures.class found.ensures.room.room full in (
+            found.ensures.tried vain key own alive,
+            gone_through by was States new.number new.history found.field-0 made_with (sym (ap (λ (v : ClassView). v.number) c.make_room_under.ensures.class.same)) vain found.ensures.room,
           ),
       inr (
-        searched_once (searcher_at config c.args.own.now.stripe c.args.task.turn) was (IsSeenState config.stripes (stripe_sight c.args.own.now) c.make_room_under.new.own.sight) new.history found.field-0
-            made_with found.ensures.room,
+        searched_once by was States new.history found.field-0 made_with found.ensures.room,
         c.make_room_under.ensures.seen,
       ),
     )

@@ -120,7 +120,7 @@ returns-clause-leaves g c =
 pub returns-clause-tried : goal.returns-clause-tried
 returns-clause-tried g c =
     let at = goal.at.returns-clause-tried g c in
-    rw (class_last g at.After-hear, sym (class_is g at.After-side), sym c.learn_from.ensures.same) c.make_room_with-found.ensures.tried
+    rw (class_last g at.After-hear, sym c.learn_from.ensures.same) c.make_room_with-found.ensures.tried
 
 pub returns-clause-full : goal.returns-clause-full
 returns-clause-full g c = λ is.

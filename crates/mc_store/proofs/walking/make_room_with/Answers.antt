@@ -3,7 +3,7 @@ use Rattle.std.specs.Prelude.{MatchResult}
 use Rattle.mc_item.specs.declared.{config.Config.Config, item.StripeNo.StripeNo}
 use Rattle.mc_board.specs.Views.{SeenView}
 use Rattle.mc_pull.specs.Rounds.{rounds}
-use Rattle.mc_store.specs.{Earned.IsSearchInVain, Reached.IsSeenState, Searches.IsSearchBroken, Searches.IsSearchedWith}
+use Rattle.mc_store.specs.{Earned.HasSearchedForAny, Reached.IsSeenState, Searches.IsSearchBroken, Searches.IsSearchedWith}
 use Rattle.mc_store.proofs.GateLemmas.{ok_more}
 use Rattle.mc_store.proofs.walking.make_room_with.Goals as goal
 
@@ -25,6 +25,6 @@ returns-clause-room g c =
 pub returns-clause-tried : goal.returns-clause-tried
 returns-clause-tried g c =
     ok_more c.make_room.result _ (λ (found : Bool). found ≡ false
-    → IsSearchInVain g.N.Named.config c.args.class.now c.args.own.now.stripe c.args.task.turn.who c.args.task.turn.moment c.make_room.new.class.history)
+    → HasSearchedForAny g.N.Named.config.stripes c.args.own.now.stripe c.args.task.turn.who c.args.task.turn.moment c.make_room.new.class.history)
     (λ found made. made)
     c.make_room.ensures.tried

@@ -1,10 +1,6 @@
-use Rattle.std.proofs.Common.{◌∙◌, refl}
-use Rattle.mc_item.specs.{Command.key_of, Measure.stripe_of}
 use Rattle.mc_script.specs.Exchanges.{Asks}
-use Rattle.mc_store.proofs.FullLemmas.{full_short}
-use Rattle.mc_driver.proofs.{CalledEventLemmas.full_calls, CutCallLemmas.command_broke, EnteredCallLemmas.Gains, EnteredCallLemmas.gains}
+use Rattle.mc_driver.proofs.{CutCallLemmas.command_broke, EnteredCallLemmas.Gains, EnteredCallLemmas.gains}
 use Rattle.mc_driver.proofs.SharedCallLemmas.{call_failed, call_gains, goes_on, replied_ok}
-use Rattle.mc_evidence.proofs.SoundLemmas.{below_stripes}
 use Rattle.mc_driver.proofs.caller.CallerCalls.command.Goals as goal
 use Rattle.mc_driver.proofs.caller.CallerCalls.command.Goals.{After-command}
 use Rattle.mc_driver.proofs.caller.CallerCalls.command.Given.{Over}
@@ -34,10 +30,4 @@ returns-clause-err g c =
 
 pub returns-clause-caller : goal.returns-clause-caller
 returns-clause-caller g c =
-    let config = g.N.Named.config in
-    let number = (stripe_of (key_of c.args.command) config.stripes).0 in
-    let old = c.args.self.now.pass in
-    let new = c.command.new.pass in
-    goes_on config old new c.command.result c.requires.may c.command.ensures.caller c.command.ensures.turn.0
-    (full_calls config old new c.command.result _ c.requires.may c.command.ensures.cut (λ cut. full_short config number cut.old cut.new new.sight c.args.command c.args.moment
-    (below_stripes (key_of c.args.command) config.stripes c.requires.may.some) (cut.grew.site.limit ∙ cut.grew.made_with.limit) cut.grew.now (cut.full refl)))
+    goes_on g.N.Named.config c.args.self.now.pass c.command.new.pass c.command.result c.requires.may c.command.ensures.caller c.command.ensures.turn.0

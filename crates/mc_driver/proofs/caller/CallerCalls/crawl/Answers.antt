@@ -1,7 +1,5 @@
-use Rattle.std.proofs.Common.{refl}
 use Rattle.mc_script.specs.Exchanges.{Crawls}
-use Rattle.mc_store.proofs.ShortHistoryLemmas.{short_lock}
-use Rattle.mc_driver.proofs.{CutCallLemmas.crawl_broke, EnteredCallLemmas.Gains, EnteredCallLemmas.gains, CalledEventLemmas.full_calls}
+use Rattle.mc_driver.proofs.{CutCallLemmas.crawl_broke, EnteredCallLemmas.Gains, EnteredCallLemmas.gains}
 use Rattle.mc_driver.proofs.SharedCallLemmas.{call_failed, call_gains, crawled_kinds, crawled_ok, goes_on}
 use Rattle.mc_driver.proofs.caller.CallerCalls.crawl.Goals as goal
 use Rattle.mc_driver.proofs.caller.CallerCalls.crawl.Goals.{After-crawl}
@@ -33,7 +31,4 @@ returns-clause-err g c =
 
 pub returns-clause-caller : goal.returns-clause-caller
 returns-clause-caller g c =
-    let old = c.args.self.now.pass in
-    let new = c.crawl.new.pass in
-    goes_on g.N.Named.config old new c.crawl.result c.requires.may c.crawl.ensures.caller c.crawl.ensures.turn.0
-    (full_calls g.N.Named.config old new c.crawl.result _ c.requires.may c.crawl.ensures.cut (λ till. short_lock g.N.Named.config new.sight (till.full refl)))
+    goes_on g.N.Named.config c.args.self.now.pass c.crawl.new.pass c.crawl.result c.requires.may c.crawl.ensures.caller c.crawl.ensures.turn.0

@@ -1,7 +1,5 @@
-use Rattle.std.proofs.Common.{refl}
 use Rattle.mc_script.specs.Exchanges.{Juggles}
-use Rattle.mc_store.proofs.ShortHistoryLemmas.{short_lock}
-use Rattle.mc_driver.proofs.{CutCallLemmas.juggling_broke, EnteredCallLemmas.Gains, EnteredCallLemmas.gains, CalledEventLemmas.full_calls}
+use Rattle.mc_driver.proofs.{CutCallLemmas.juggling_broke, EnteredCallLemmas.Gains, EnteredCallLemmas.gains}
 use Rattle.mc_driver.proofs.SharedCallLemmas.{call_failed, call_gains, goes_on, juggled_ok}
 use Rattle.mc_driver.proofs.caller.CallerCalls.juggle.Goals as goal
 use Rattle.mc_driver.proofs.caller.CallerCalls.juggle.Goals.{After-juggle}
@@ -29,7 +27,4 @@ returns-clause-err g c =
 
 pub returns-clause-caller : goal.returns-clause-caller
 returns-clause-caller g c =
-    let old = c.args.self.now.pass in
-    let new = c.juggle.new.pass in
-    goes_on g.N.Named.config old new c.juggle.result c.requires.may c.juggle.ensures.caller c.juggle.ensures.turn.0
-    (full_calls g.N.Named.config old new c.juggle.result _ c.requires.may c.juggle.ensures.cut (λ till. short_lock g.N.Named.config new.sight (till.full refl)))
+    goes_on g.N.Named.config c.args.self.now.pass c.juggle.new.pass c.juggle.result c.requires.may c.juggle.ensures.caller c.juggle.ensures.turn.0

@@ -1,6 +1,5 @@
-use Rattle.std.proofs.Common.{refl}
 use Rattle.mc_script.specs.Exchanges.{Limits}
-use Rattle.mc_driver.proofs.{CutCallLemmas.limit_broke, EnteredCallLemmas.Gains, EnteredCallLemmas.gains, CalledEventLemmas.full_calls, CalledEventLemmas.lacks_short}
+use Rattle.mc_driver.proofs.{CutCallLemmas.limit_broke, EnteredCallLemmas.Gains, EnteredCallLemmas.gains}
 use Rattle.mc_driver.proofs.SharedCallLemmas.{call_failed, call_gains, goes_on, limited_ok}
 use Rattle.mc_driver.proofs.caller.CallerCalls.limit.Goals as goal
 use Rattle.mc_driver.proofs.caller.CallerCalls.limit.Goals.{After-chunks}
@@ -26,12 +25,9 @@ returns-clause-err g c = λ moment.
     call_failed g.N.Named.config old new c.chunks.ensures.caller c.chunks.ensures.grows.seen c.requires.may (gained g at) (Limits c.args.class c.args.chunks) moment c.chunks.result c.chunks.ensures.cut
     (λ fault till. (
       till.limited.noted,
-      λ before. limit_broke g.N.Named.config c.args.class old new c.args.chunks moment c.requires.there c.chunks.ensures.grows.seen before till.limited,
+      λ before. limit_broke g.N.Named.config c.args.class old new c.args.chunks moment fault c.requires.there c.chunks.ensures.grows.seen before till,
     ))
 
 pub returns-clause-caller : goal.returns-clause-caller
 returns-clause-caller g c =
-    let old = c.args.self.now.pass in
-    let new = c.chunks.new.pass in
-    goes_on g.N.Named.config old new c.chunks.result c.requires.may c.chunks.ensures.caller c.chunks.ensures.turn.0
-    (full_calls g.N.Named.config old new c.chunks.result _ c.requires.may c.chunks.ensures.cut (λ till. lacks_short g.N.Named.config new.sight c.args.class (till.full refl)))
+    goes_on g.N.Named.config c.args.self.now.pass c.chunks.new.pass c.chunks.result c.requires.may c.chunks.ensures.caller c.chunks.ensures.turn.0

@@ -4,7 +4,7 @@ use Rattle.mc_item.specs.declared.item.StripeNo.{StripeNo}
 use Rattle.mc_stripe.specs.StripeState.{Stripe}
 use Rattle.mc_pull.specs.{Rounds.rounds, Tried.AreHad, Walker.walker_of}
 use Rattle.mc_pull.specs.declared.looking.Answer.{Answer}
-use Rattle.mc_store.specs.{Earned.IsSearchInVain, Reached.AreJudgedBy, Reached.IsSeenState, Searches.IsSearchBroken, Searches.IsSearchedWith}
+use Rattle.mc_store.specs.{Earned.HasSearchedForAny, Reached.AreJudgedBy, Reached.IsSeenState, Searches.IsSearchBroken, Searches.IsSearchedWith}
 use Rattle.mc_store.proofs.{GateLemmas.ok_more, GateLemmas.served_asked, KeptWalkLemmas.searched_first, ReachedLemmas.gained_states, ShortHistoryLemmas.match_more, VisitedStripeLemmas.tried_any}
 use Rattle.mc_store.proofs.gates.Holding.make_room.Given.{Over}
 use Rattle.mc_store.proofs.gates.Holding.make_room.Goals as goal
@@ -58,7 +58,7 @@ returns-clause-tried g c =
     let after = c.make_room.new.class.history in
     let first = searched_first config w own others.who others.moment others.owner.now others.seen.now.sight others.caller.now others.answers.now history in
     let kept = c.make_room.ensures.gate.kept c.args.self.now history first in
-    ok_more c.make_room.result _ (λ (found : Bool). found ≡ false → IsSearchInVain config c.args.class.now own c.args.context.turn.who c.args.context.turn.moment after)
+    ok_more c.make_room.result _ (λ (found : Bool). found ≡ false → HasSearchedForAny config.stripes own c.args.context.turn.who c.args.context.turn.moment after)
     (λ found made vain.
     tried_any config c.args.context.config.now c.args.class.now c.args.context.turn.who c.args.context.turn.moment own others.answers.now c.make_room.new.gate.others.answers.now made.0 after found
     c.requires.gate.names c.a_search_in_vain_has_tried.ensures (kept.1 (c.requires.gate.asks, c.requires.gate.at)).1 made.1 made.2 vain)

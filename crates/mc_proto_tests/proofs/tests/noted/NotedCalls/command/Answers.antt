@@ -1,8 +1,9 @@
 -- A call that misses is one more.
-use Rattle.std.proofs.Common.{arith, length-append, refl, sym, ap, [], None}
+use Rattle.std.proofs.Common.{arith, inl, length-append, refl, sym, ap, [], None}
 use Rattle.mc_item.specs.Answer.{row_of}
 use Rattle.mc_item.specs.declared.{answer.Site.Site, command.Command.Command, reply.Room.TheVariants.Keep}
-use Rattle.mc_script.specs.Exchanges.{Exchange}
+use Rattle.mc_script.specs.Exchanges.{Exchange, Unbegun}
+use Rattle.mc_item.specs.declared.fault.Fault.TheVariants.{NoMemory}
 use Rattle.mc_proto_tests.proofs.tests.noted.NotedCalls.command.Goals as goal
 
 pub returns-clause-ok : goal.returns-clause-ok
@@ -16,3 +17,9 @@ returns-clause-ok g c =
       turns = omega arith;
       caller = refl;
     }
+
+pub returns-in_default-clause-err : goal.returns-in_default-clause-err
+returns-in_default-clause-err g c = record { at = λ calls is. (Unbegun NoMemory, inl refl, is) }
+
+pub returns-then-self-clause-err : goal.returns-then-self-clause-err
+returns-then-self-clause-err g c = record { at = λ calls is. (Unbegun NoMemory, inl refl, is) }

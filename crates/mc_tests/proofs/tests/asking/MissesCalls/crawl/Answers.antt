@@ -1,6 +1,7 @@
 -- A crawl that sees nothing is one call more.
-use Rattle.std.proofs.Common.{arith, length-append, refl}
-use Rattle.mc_script.specs.Exchanges.{Exchange}
+use Rattle.std.proofs.Common.{arith, inl, length-append, refl}
+use Rattle.mc_script.specs.Exchanges.{Exchange, Unbegun}
+use Rattle.mc_item.specs.declared.fault.Fault.TheVariants.{HistoryFull}
 use Rattle.mc_tests.proofs.tests.asking.MissesCalls.crawl.Goals as goal
 
 pub returns-clause-ok : goal.returns-clause-ok
@@ -11,3 +12,6 @@ returns-clause-ok g c = record {
   turns = omega arith;
   caller = refl;
 }
+
+pub returns-then-self-ge-MOST-clause-err : goal.returns-then-self-ge-MOST-clause-err
+returns-then-self-ge-MOST-clause-err g c = record { at = λ calls is. (Unbegun HistoryFull, inl refl, is) }

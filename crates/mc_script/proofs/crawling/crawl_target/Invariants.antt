@@ -1,7 +1,7 @@
 use Rattle.std.proofs.Common.{◌≡◌, ◌≤◌, ◌*◌, length}
 use Rattle.mc_proto.specs.Answers.{counts_of}
 use Rattle.mc_script.specs.{Calls.AddsUp, Calls.IsSameCaller, Calls.SumsUp, Exchanges.Crawls, Script.classes_from}
-use Rattle.mc_script.proofs.crawling.crawl_from.Given as goal
+use Rattle.mc_script.proofs.crawling.crawl_target.Given as goal
 
 -- the classes so far were crawled, and no sum is large
 abbrev pub invariant-loop-i : goal.invariant-loop-i

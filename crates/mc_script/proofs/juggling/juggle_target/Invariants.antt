@@ -1,7 +1,7 @@
 use Rattle.std.proofs.Common.{◌≤◌, ◌*◌}
 use Rattle.mc_proto.specs.Answers.{moves_of}
 use Rattle.mc_script.specs.{Calls.IsSameCaller, Calls.SumsUp, Exchanges.Juggles, Script.classes_from}
-use Rattle.mc_script.proofs.juggling.juggle_from.Given as goal
+use Rattle.mc_script.proofs.juggling.juggle_target.Given as goal
 
 -- the classes so far were juggled, and no sum is large
 abbrev pub invariant-loop-i : goal.invariant-loop-i
